@@ -1,5 +1,5 @@
 -- Truths packed into bytes are read back, and bytes with no set padding are the truths that they hold, packed.
-use Rattle.std.proofs.Common.{ne_eqb, slice_get, bit_and, Some, ◌≡◌, ℕ, zero, suc, ◌+◌, ◌-◌, ◌*◌, ◌/◌, ◌%◌, ◌^◌, ◌<◌, ◌≤◌, Bool, true, false, cond, not, ◌==◌, ◌||◌, List, [], ◌∷◌, ◌++◌, length, get_or, take, drop, append_assoc, refl, sym, ap, ◌∙◌, arith, inl, inr}
+use Rattle.std.proofs.Common.{ne_eqb, slice_get, bit_and, Some, ◌≡◌, ℕ, zero, suc, ◌+◌, ◌-◌, ◌*◌, ◌/◌, ◌%◌, ◌^◌, ◌<◌, ◌≤◌, Bool, true, false, cond, not, ◌==◌, ◌||◌, List, [], ◌∷◌, ◌++◌, length, get_or, take, drop, append_assoc, refl, sym, ap, ◌∙◌, arith, inl, inr, rules}
 use Rattle.std.specs.List.{list_any}
 use Rattle.std.specs.Int.{bit_at}
 use Rattle.std.proofs.lemmas.Bool.{cases_lt}
@@ -9,6 +9,7 @@ use Rattle.std.proofs.lemmas.Nat.{mod-pow-add, pow_pos}
 use Rattle.std.proofs.lemmas.Nat.Bits.{bit_at-lt, bit_at-zero, shr_and_one}
 use Rattle.values.specs.declared.limits.TheConstants.{MAX_BLOCK_VALUES}
 use Rattle.blocks.specs.Payload.{AreBytes, IsPacked, byte_count, bit_of, byte_of, packed, low_bits, bits_of, all_bits, has_set_padding}
+use Rattle.std.proofs.lemmas.Grind.{common_steps}
 
 -- ---- one byte
 
@@ -31,17 +32,7 @@ byte_by_bits : (byte : ℕ) → byte < 256
 byte_by_bits byte lt = omega arith
 
 byte_of-bits_of : (byte : ℕ) (rest : List Bool) → byte < 256 → byte_of (bits_of byte ++ rest) ≡ byte
-byte_of-bits_of byte rest lt =
-    rw (
-      bit_again _ (bit_at-lt byte 7),
-      bit_again _ (bit_at-lt byte 6),
-      bit_again _ (bit_at-lt byte 5),
-      bit_again _ (bit_at-lt byte 4),
-      bit_again _ (bit_at-lt byte 3),
-      bit_again _ (bit_at-lt byte 2),
-      bit_again _ (bit_at-lt byte 1),
-      bit_again _ (bit_at-lt byte 0),
-    ) (byte_by_bits byte lt)
+byte_of-bits_of byte rest lt = omega (arith, bit_again, bit_at-lt, byte_by_bits)
 
 -- the bits of a sum of bits, each at its weight
 module _ (a b c d e f g h : ℕ) (la : a < 2) (lb : b < 2) (lc : c < 2) (ld : d < 2) (le : e < 2) (lf : f < 2) (lg : g < 2) (lh : h < 2) where
@@ -70,62 +61,18 @@ module _ (a b c d e f g h : ℕ) (la : a < 2) (lb : b < 2) (lc : c < 2) (ld : d 
   bit_0 = omega arith
 
 bit_of-lt : (bs : List Bool) (i : ℕ) → bit_of bs i < 2
-bit_of-lt bs i = bounded (get_or bs i false)
-  where
-    bounded : (b : Bool) → cond b 1 0 < 2
-    bounded true = omega arith
-    bounded false = omega arith
+bit_of-lt bs i = search rules
 
 -- the truths of the byte of truths
 low_bits-byte_of : (bs : List Bool) (i : ℕ) → i < 8 → get_or (bits_of (byte_of bs)) i false ≡ get_or bs i false
-low_bits-byte_of bs zero lt =
-    ap (λ bit. bit == 1)
-    (bit_7 (bit_of bs 0) (bit_of bs 1) (bit_of bs 2) (bit_of bs 3) (bit_of bs 4) (bit_of bs 5) (bit_of bs 6) (bit_of bs 7)
-    (bit_of-lt bs 0) (bit_of-lt bs 1) (bit_of-lt bs 2) (bit_of-lt bs 3) (bit_of-lt bs 4) (bit_of-lt bs 5) (bit_of-lt bs 6)
-    (bit_of-lt bs 7))
-    ∙ truth_again (get_or bs 0 false)
-low_bits-byte_of bs (suc zero) lt =
-    ap (λ bit. bit == 1)
-    (bit_6 (bit_of bs 0) (bit_of bs 1) (bit_of bs 2) (bit_of bs 3) (bit_of bs 4) (bit_of bs 5) (bit_of bs 6) (bit_of bs 7)
-    (bit_of-lt bs 0) (bit_of-lt bs 1) (bit_of-lt bs 2) (bit_of-lt bs 3) (bit_of-lt bs 4) (bit_of-lt bs 5) (bit_of-lt bs 6)
-    (bit_of-lt bs 7))
-    ∙ truth_again (get_or bs 1 false)
-low_bits-byte_of bs (suc (suc zero)) lt =
-    ap (λ bit. bit == 1)
-    (bit_5 (bit_of bs 0) (bit_of bs 1) (bit_of bs 2) (bit_of bs 3) (bit_of bs 4) (bit_of bs 5) (bit_of bs 6) (bit_of bs 7)
-    (bit_of-lt bs 0) (bit_of-lt bs 1) (bit_of-lt bs 2) (bit_of-lt bs 3) (bit_of-lt bs 4) (bit_of-lt bs 5) (bit_of-lt bs 6)
-    (bit_of-lt bs 7))
-    ∙ truth_again (get_or bs 2 false)
-low_bits-byte_of bs (suc (suc (suc zero))) lt =
-    ap (λ bit. bit == 1)
-    (bit_4 (bit_of bs 0) (bit_of bs 1) (bit_of bs 2) (bit_of bs 3) (bit_of bs 4) (bit_of bs 5) (bit_of bs 6) (bit_of bs 7)
-    (bit_of-lt bs 0) (bit_of-lt bs 1) (bit_of-lt bs 2) (bit_of-lt bs 3) (bit_of-lt bs 4) (bit_of-lt bs 5) (bit_of-lt bs 6)
-    (bit_of-lt bs 7))
-    ∙ truth_again (get_or bs 3 false)
-low_bits-byte_of bs (suc (suc (suc (suc zero)))) lt =
-    ap (λ bit. bit == 1)
-    (bit_3 (bit_of bs 0) (bit_of bs 1) (bit_of bs 2) (bit_of bs 3) (bit_of bs 4) (bit_of bs 5) (bit_of bs 6) (bit_of bs 7)
-    (bit_of-lt bs 0) (bit_of-lt bs 1) (bit_of-lt bs 2) (bit_of-lt bs 3) (bit_of-lt bs 4) (bit_of-lt bs 5) (bit_of-lt bs 6)
-    (bit_of-lt bs 7))
-    ∙ truth_again (get_or bs 4 false)
-low_bits-byte_of bs (suc (suc (suc (suc (suc zero))))) lt =
-    ap (λ bit. bit == 1)
-    (bit_2 (bit_of bs 0) (bit_of bs 1) (bit_of bs 2) (bit_of bs 3) (bit_of bs 4) (bit_of bs 5) (bit_of bs 6) (bit_of bs 7)
-    (bit_of-lt bs 0) (bit_of-lt bs 1) (bit_of-lt bs 2) (bit_of-lt bs 3) (bit_of-lt bs 4) (bit_of-lt bs 5) (bit_of-lt bs 6)
-    (bit_of-lt bs 7))
-    ∙ truth_again (get_or bs 5 false)
-low_bits-byte_of bs (suc (suc (suc (suc (suc (suc zero)))))) lt =
-    ap (λ bit. bit == 1)
-    (bit_1 (bit_of bs 0) (bit_of bs 1) (bit_of bs 2) (bit_of bs 3) (bit_of bs 4) (bit_of bs 5) (bit_of bs 6) (bit_of bs 7)
-    (bit_of-lt bs 0) (bit_of-lt bs 1) (bit_of-lt bs 2) (bit_of-lt bs 3) (bit_of-lt bs 4) (bit_of-lt bs 5) (bit_of-lt bs 6)
-    (bit_of-lt bs 7))
-    ∙ truth_again (get_or bs 6 false)
-low_bits-byte_of bs (suc (suc (suc (suc (suc (suc (suc zero))))))) lt =
-    ap (λ bit. bit == 1)
-    (bit_0 (bit_of bs 0) (bit_of bs 1) (bit_of bs 2) (bit_of bs 3) (bit_of bs 4) (bit_of bs 5) (bit_of bs 6) (bit_of bs 7)
-    (bit_of-lt bs 0) (bit_of-lt bs 1) (bit_of-lt bs 2) (bit_of-lt bs 3) (bit_of-lt bs 4) (bit_of-lt bs 5) (bit_of-lt bs 6)
-    (bit_of-lt bs 7))
-    ∙ truth_again (get_or bs 7 false)
+low_bits-byte_of bs zero lt = grind (arith, common_steps, bit_7, bit_of-lt, truth_again)
+low_bits-byte_of bs (suc zero) lt = grind (arith, common_steps, bit_6, bit_of-lt, truth_again)
+low_bits-byte_of bs (suc (suc zero)) lt = grind (arith, common_steps, bit_5, bit_of-lt, truth_again)
+low_bits-byte_of bs (suc (suc (suc zero))) lt = grind (arith, common_steps, bit_4, bit_of-lt, truth_again)
+low_bits-byte_of bs (suc (suc (suc (suc zero)))) lt = grind (arith, common_steps, bit_3, bit_of-lt, truth_again)
+low_bits-byte_of bs (suc (suc (suc (suc (suc zero))))) lt = grind (arith, common_steps, bit_2, bit_of-lt, truth_again)
+low_bits-byte_of bs (suc (suc (suc (suc (suc (suc zero)))))) lt = grind (arith, common_steps, bit_1, bit_of-lt, truth_again)
+low_bits-byte_of bs (suc (suc (suc (suc (suc (suc (suc zero))))))) lt = grind (arith, common_steps, bit_0, bit_of-lt, truth_again)
 low_bits-byte_of bs (suc (suc (suc (suc (suc (suc (suc (suc j)))))))) lt = absurd (omega arith)
 
 -- ---- several bytes
@@ -174,18 +121,7 @@ packed-place (suc n) bs (suc (suc (suc (suc (suc (suc (suc (suc j)))))))) le =
 
 -- truths make a byte
 pub byte_of-lt : (bs : List Bool) → byte_of bs < 256
-byte_of-lt bs =
-    omega (
-      arith,
-      bit_of-lt bs 0,
-      bit_of-lt bs 1,
-      bit_of-lt bs 2,
-      bit_of-lt bs 3,
-      bit_of-lt bs 4,
-      bit_of-lt bs 5,
-      bit_of-lt bs 6,
-      bit_of-lt bs 7,
-    )
+byte_of-lt bs = search rules
 
 packed-AreBytes : (n : ℕ) (bs : List Bool) → AreBytes (packed n bs)
 packed-AreBytes zero bs i = omega arith
@@ -259,22 +195,10 @@ truths-packed bs =
 
 -- and set no padding
 pub unused-packed : (bs : List Bool) → has_set_padding (length bs) (packed (byte_count (length bs)) bs) ≡ false
-unused-packed bs =
-    let n = byte_count (length bs) in
-    let room : length bs ≤ 8 * n = omega arith in
-    none_from_places (drop (length bs) (all_bits (packed n bs)))
-    (λ i. get_or-drop (length bs) (all_bits (packed n bs)) i false
-    ∙ packed-place n bs (length bs + i) room
-    ∙ get_or_past bs (length bs + i) false (omega arith))
+unused-packed bs = grind (arith, common_steps, none_from_places, get_or-drop, packed-place, get_or_past)
 
 pub packed-IsPacked : (bs : List Bool) → length bs ≤ MAX_BLOCK_VALUES → IsPacked (length bs) (packed (byte_count (length bs)) bs)
-packed-IsPacked bs few =
-    record {
-      whole = length-packed (byte_count (length bs)) bs;
-      unused = unused-packed bs;
-      few = few;
-      small = packed-AreBytes (byte_count (length bs)) bs;
-    }
+packed-IsPacked bs few = grind (arith, common_steps, length-packed, unused-packed, packed-AreBytes)
 
 -- ---- one truth
 
@@ -313,9 +237,7 @@ truth_at count bytes i byte whole lt is =
 
 -- some of the lowest bits is set just where the byte is no multiple of their weight
 low_bits-any : (k byte : ℕ) → list_any (λ bit. bit) (low_bits k byte) ≡ not (byte % 2 ^ k == 0)
-low_bits-any zero byte =
-    let none : byte % 1 ≡ 0 = omega arith in
-    ap (λ n. not (n == 0)) (sym none)
+low_bits-any zero byte = search rules
 low_bits-any (suc k) byte =
     let more : 1 + k ≡ suc k = omega arith in
     by (bit_at byte k) (bit_at-lt byte k) (rw more at (mod-pow-add byte 1 k)) (low_bits-any k byte)
@@ -330,9 +252,7 @@ low_bits-any (suc k) byte =
     by (suc (suc b)) lt e ih = absurd (omega arith)
 
 drop-all_bits : (q r : ℕ) (bytes : List ℕ) → drop (8 * q + r) (all_bits bytes) ≡ drop r (all_bits (drop q bytes))
-drop-all_bits zero r bytes =
-    let e : 8 * 0 + r ≡ r = omega arith in
-    ap (λ n. drop n (all_bits bytes)) e
+drop-all_bits zero r bytes = search rules
 drop-all_bits (suc q) r [] = drop_all (8 * suc q + r) [] (omega arith) ∙ sym (drop_all r [] (omega arith))
 drop-all_bits (suc q) r (byte ∷ bytes) =
     let e : 8 * suc q + r ≡ (suc (suc (suc (suc (suc (suc (suc (suc (8 * q + r))))))))) = omega arith in

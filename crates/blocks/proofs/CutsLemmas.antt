@@ -3,13 +3,14 @@ use Rattle.std.proofs.Common.{◌≡◌, ℕ, zero, suc, ◌+◌, ◌-◌, ◌*�
 use Rattle.std.specs.List.{All, AllByRecursion}
 use Rattle.std.proofs.lemmas.List.{append-nil, length-append, take_at, drop_at}
 use Rattle.std.proofs.lemmas.Grind.{flat_map-append}
-use Rattle.std.proofs.lemmas.List.Elements.{All-nil, All-cons}
+use Rattle.std.proofs.lemmas.List.Elements.{All-nil}
 use Rattle.std.proofs.lemmas.Option.{slice_get-get_or}
 use Rattle.std.proofs.Math.Seq.{take-add}
 use Rattle.std.proofs.lemmas.Str.{IsUtf8-nil, IsUtf8-append, IsCharBoundary-at_seam}
 use Rattle.values.specs.declared.limits.TheConstants.{MAX_TEXT_BYTES, MAX_BLOCK_VALUES}
 use Rattle.blocks.specs.Cuts.{joined, ends_of, cut, IsText, IsCut}
 use Rattle.blocks.proofs.RunLemmas.{all_append, all_take, all_drop}
+use Rattle.std.proofs.lemmas.Grind.{common_steps}
 
 -- ---- lengths
 
@@ -31,17 +32,7 @@ joined-short (t ∷ ts) fit = omega (arith, length-append t (joined ts), fit.0.s
 cut_after : (ts : List (List ℕ)) (front bytes : List ℕ) (start : ℕ) → length front ≡ start → bytes ≡ front ++ joined ts
     → cut start (ends_of start ts) bytes ≡ ts
 cut_after [] front bytes start counted spelt = refl
-cut_after (t ∷ ts) front bytes start counted spelt =
-    let long : start + length t - start ≡ length t = omega arith in
-    let first : take (start + length t - start) (drop start bytes) ≡ t =
-    ap (λ n. take n (drop start bytes)) long
-    ∙ ap (λ bs. take (length t) (drop start bs)) spelt
-    ∙ ap (take (length t)) (drop_at front (t ++ joined ts) start counted)
-    ∙ take_at t (joined ts) (length t) refl in
-    let others =
-    cut_after ts (front ++ t) bytes (start + length t) (length-append front t ∙ ap (λ n. n + length t) counted)
-    (spelt ∙ sym (append_assoc front t (joined ts))) in
-    rw (first, others) refl
+cut_after (t ∷ ts) front bytes start counted spelt = grind (arith, common_steps, cut_after ts (front ++ t) bytes (start + length t) (length-append front t ∙ ap (λ n. n + length t) counted) (spelt ∙ sym (append_assoc front t (joined ts))), drop_at, take_at, length-append, append_assoc)
 
 pub cut-ends_of : (ts : List (List ℕ)) → cut 0 (ends_of 0 ts) (joined ts) ≡ ts
 cut-ends_of ts = cut_after ts [] (joined ts) 0 refl refl
@@ -53,10 +44,7 @@ ends_of-append : (start : ℕ) (ts us : List (List ℕ))
 ends_of-append start [] us =
     let e : start ≡ start + 0 = omega arith in
     ap (λ n. ends_of n us) e
-ends_of-append start (t ∷ ts) us =
-    let e : start + length t + length (joined ts) ≡ start + length (t ++ joined ts) = omega (arith, length-append t (joined ts)) in
-    ap (λ ends. (start + length t) ∷ ends)
-    (ends_of-append (start + length t) ts us ∙ ap (λ n. ends_of (start + length t) ts ++ ends_of n us) e)
+ends_of-append start (t ∷ ts) us = grind (arith, common_steps, ends_of-append (start + length t) ts us, length-append)
 
 -- the ends and the buffer with texts more
 pub record Longer (ends bytes longer whole : List ℕ) (run : List (List ℕ)) : Type 0 where
@@ -107,15 +95,7 @@ push_text ends bytes t kept few one =
 
 -- the end of a text that is pushed fits 32 bits
 pub end_fits : (ends bytes t : List ℕ) → IsCut ends bytes → length t ≤ MAX_TEXT_BYTES → length (bytes ++ t) < 4294967296
-end_fits ends bytes t kept short =
-    omega (
-      arith,
-      length-append bytes t,
-      ap length kept.whole,
-      joined-short (cut 0 ends bytes) kept.texts,
-      length-cut 0 ends bytes,
-      kept.few,
-    )
+end_fits ends bytes t kept short = grind (arith, common_steps, length-append, joined-short, length-cut)
 
 -- ---- one text of them
 
@@ -226,29 +206,20 @@ buffer-short ends bytes kept =
 pub ends_moved : (from to at : ℕ) (ts : List (List ℕ)) → from ≤ at
     → map (λ end. to + (end - from)) (ends_of at ts) ≡ ends_of (to + (at - from)) ts
 ends_moved from to at [] le = refl
-ends_moved from to at (t ∷ ts) le =
-    let first : to + (at + length t - from) ≡ to + (at - from) + length t = omega (arith, le) in
-    (λ i. first i ∷ ends_moved from to (at + length t) ts (omega (arith, le)) i)
-    ∙ ap (λ n. (to + (at - from) + length t) ∷ ends_of n ts) first
+ends_moved from to at (t ∷ ts) le = grind (arith, common_steps, ends_moved from to (at + length t) ts (omega (arith, le)))
 
 -- and each of them is small
 pub ends_small : (from to at : ℕ) (ts : List (List ℕ)) → from ≤ at → to + (at - from) + length (joined ts) < 4294967296
     → All (λ end. (from ≤ end) × (to + (end - from) < 4294967296)) (ends_of at ts)
 ends_small from to at [] le lt = All-nil (λ end. (from ≤ end) × (to + (end - from) < 4294967296))
-ends_small from to at (t ∷ ts) le lt =
-    All-cons (λ end. (from ≤ end) × (to + (end - from) < 4294967296)) (at + length t) (ends_of (at + length t) ts)
-    (omega (arith, le), omega (arith, le, lt, length-append t (joined ts)))
-    (ends_small from to (at + length t) ts (omega (arith, le)) (omega (arith, le, lt, length-append t (joined ts))))
+ends_small from to at (t ∷ ts) le lt = grind (arith, common_steps, ends_small from to (at + length t) ts (omega (arith, le)) (omega (arith, le, lt, length-append t (joined ts))), length-append)
 
 ends_of-drop : (i start : ℕ) (ts : List (List ℕ)) → drop i (ends_of start ts) ≡ ends_of (start + length (joined (take i ts))) (drop i ts)
 ends_of-drop zero start ts =
     let e : start ≡ start + 0 = omega arith in
     ap (λ n. ends_of n ts) e
 ends_of-drop (suc i) start [] = refl
-ends_of-drop (suc i) start (t ∷ ts) =
-    let e : start + length t + length (joined (take i ts)) ≡ start + length (t ++ joined (take i ts)) =
-    omega (arith, length-append t (joined (take i ts))) in
-    ends_of-drop i (start + length t) ts ∙ ap (λ n. ends_of n (drop i ts)) e
+ends_of-drop (suc i) start (t ∷ ts) = grind (arith, common_steps, ends_of-drop i (start + length t) ts, length-append)
 
 ends_of-take : (i start : ℕ) (ts : List (List ℕ)) → take i (ends_of start ts) ≡ ends_of start (take i ts)
 ends_of-take zero start ts = refl

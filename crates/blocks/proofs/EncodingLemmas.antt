@@ -1,9 +1,8 @@
 -- Payloads of format 2: where their faults are, and their round trip.
-use Rattle.std.proofs.Common.{◌≡◌, ◌⊎◌, inl, inr, ℕ, zero, suc, ◌+◌, ◌≤◌, ◌&&◌, Bool, true, false, not, cond, ltb, eqb, List, [], ◌∷◌, length, take, drop, map, get_or, replicate, slice_get, Option, Some, Result, Ok, Err, IsTrue, IsFalse, refl, sym, ap, subst, ◌∙◌, arith}
+use Rattle.std.proofs.Common.{◌≡◌, ◌⊎◌, inl, inr, ℕ, zero, suc, ◌+◌, ◌≤◌, ◌&&◌, Bool, true, false, not, cond, ltb, eqb, List, [], ◌∷◌, length, take, drop, map, get_or, replicate, slice_get, Option, Some, Result, Ok, Err, IsTrue, IsFalse, refl, sym, ap, subst, ◌∙◌, arith, rules}
 use Rattle.std.specs.Prelude.{IfOk}
 use Rattle.std.specs.List.{list_all}
 use Rattle.std.specs.Ordering.{eq_by_cmp}
-use Rattle.std.specs.Str.{is_utf8}
 use Rattle.std.proofs.lemmas.Bool.{ltb-false, le-ltb}
 use Rattle.std.proofs.lemmas.Bool.Decides.{eqb_tells}
 use Rattle.std.proofs.lemmas.Cmp.{eq_by_cmp_equiv}
@@ -15,15 +14,14 @@ use Rattle.values.specs.declared.value.ColumnType.{ColumnType}
 use Rattle.values.specs.declared.value.ColumnType.TheVariants as column
 use Rattle.values.specs.declared.value.Value.{Value}
 use Rattle.values.specs.declared.value.Value.TheVariants.{Int, Text, Bool as Truth}
-use Rattle.values.specs.declared.limits.TheConstants.{MAX_TEXT_BYTES}
 use Rattle.blocks.specs.declared.fault.BlockFault.{BlockFault}
 use Rattle.blocks.specs.declared.fault.BlockFault.TheVariants.{Short, Long, BadText, TextTooLong, BadPadding, BadEncoding, NoMemory}
 use Rattle.blocks.specs.declared.encoding.TheConstants.{PLAIN, CONSTANT}
 use Rattle.blocks.specs.Column.{Column, Fits, AllFit}
 use Rattle.blocks.specs.Encoding.{is_constant, encoded_of, offset_of, behind, copies_of, unless_constant, plain_of, constant_of, decoding_of, IsEncoded, AnEncodingReadsBack, WhatDecodesIsAnEncoding, AnEncodingIsOfOneList}
 use Rattle.blocks.specs.Laws.{IsPayload}
-use Rattle.blocks.specs.Payload.{AreBytes, byte_count, all_bits, has_set_padding, payload_of}
-use Rattle.blocks.specs.Reading.{◌>>=◌, and_then, end_at, int_of, ints_at, length_of, text_at, texts_at, truths_of, reading_of, Fails, Gives}
+use Rattle.blocks.specs.Payload.{AreBytes, payload_of}
+use Rattle.blocks.specs.Reading.{◌>>=◌, and_then, end_at, int_of, ints_at, text_at, texts_at, truths_of, reading_of, Fails, Gives}
 use Rattle.blocks.proofs.IntsLemmas.{bind_ok, guard_ok, ok_is, AreBytes-drop}
 use Rattle.blocks.proofs.TextsLemmas.{text_measured}
 use Rattle.blocks.proofs.LawsLemmas.{is_payload, reads_back}
@@ -71,29 +69,7 @@ ints_within at (suc count) bytes fault e =
 
 text_within : (i at : ℕ) (bytes : List ℕ) (fault : BlockFault) → text_at i at bytes ≡ Err fault → Within at fault
 unfolding text_at
-text_within i at bytes fault e =
-    let len = length_of bytes in
-    let body = drop 2 bytes in
-    let found : List ℕ × List ℕ = (take len body, drop len body) in
-    let last = cond (is_utf8 (take len body)) (Ok found) (Err (BadText i)) in
-    elim (guard_err (ltb (length bytes) 2) (Short at)
-    (cond (ltb MAX_TEXT_BYTES len) (Err (TextTooLong i)) (cond (ltb (length body) len) (Err (Short at)) last)) fault e) [
-      | inl is ↦ subst (Within at) is (omega arith)
-      | inr a ↦
-          elim (guard_err (ltb MAX_TEXT_BYTES len) (TextTooLong i) (cond (ltb (length body) len) (Err (Short at)) last) fault a.1) [
-            | inl is ↦ subst (Within at) is (omega arith)
-            | inr b ↦
-                elim (guard_err (ltb (length body) len) (Short at) last fault b.1) [
-                  | inl is ↦ subst (Within at) is (omega arith)
-                  | inr c ↦ bad_within (is_utf8 (take len body)) found i at fault c.1
-                ]
-          ]
-    ]
-  where
-    bad_within : (b : Bool) (found : List ℕ × List ℕ) (i at : ℕ) (fault : BlockFault)
-        → cond b (Ok found) (Err (BadText i)) ≡ Err fault → Within at fault
-    bad_within true found i at fault e = absurd cc
-    bad_within false found i at fault e = subst (Within at) (err_is (BadText i) fault e) (omega arith)
+text_within i at bytes fault e = search rules
 
 texts_within : (i at count : ℕ) (bytes : List ℕ) (fault : BlockFault) → texts_at i at count bytes ≡ Err fault
     → Within (at + length bytes) fault
@@ -115,22 +91,7 @@ texts_within i at (suc count) bytes fault e =
 
 truths_within : (count : ℕ) (bytes : List ℕ) (fault : BlockFault) → truths_of count bytes ≡ Err fault → Within (length bytes) fault
 unfolding truths_of
-truths_within count bytes fault e =
-    let found = map Truth (take count (all_bits bytes)) in
-    let last = cond (has_set_padding count bytes) (Err BadPadding) (Ok found) in
-    elim (guard_err (ltb (length bytes) (byte_count count)) (Short 0)
-    (cond (ltb (byte_count count) (length bytes)) (Err (Long (byte_count count))) last) fault e) [
-      | inl is ↦ subst (Within (length bytes)) is (omega arith)
-      | inr a ↦
-          elim (guard_err (ltb (byte_count count) (length bytes)) (Long (byte_count count)) last fault a.1) [
-            | inl is ↦ subst (Within (length bytes)) is (omega (arith, ltb-false _ _ a.0))
-            | inr b ↦
-                elim (guard_err (has_set_padding count bytes) BadPadding (Ok found) fault b.1) [
-                  | inl is ↦ subst (Within (length bytes)) is (omega arith)
-                  | inr c ↦ absurd (cc c.1)
-                ]
-          ]
-    ]
+truths_within count bytes fault e = search rules
 
 read_within : (ty : ColumnType) (count : ℕ) (bytes : List ℕ) (fault : BlockFault) → reading_of ty count bytes ≡ Err fault
     → Within (length bytes) fault

@@ -1,7 +1,5 @@
 -- Values of a type may stand in a column of it.
-use Rattle.std.proofs.Common.{◌≡◌, ◌<◌, ℤ, List, ℕ, Bool, true, false, [], ◌∷◌, ◌++◌, length, get_or, map, refl, sym, ap, ◌∙◌, ◌⊎◌, inl, inr, IsTrue, FitsSigned}
-use Rattle.std.proofs.lemmas.Bool.{false≢true}
-use Rattle.std.proofs.lemmas.List.Folds.{list_all_at}
+use Rattle.std.proofs.Common.{◌≡◌, ◌<◌, ℤ, List, ℕ, Bool, false, [], ◌∷◌, ◌++◌, length, get_or, map, refl, IsTrue, FitsSigned, arith}
 use Rattle.std.specs.Int.{w64}
 use Rattle.std.specs.List.{AllByRecursion, list_all}
 use Rattle.values.specs.Shape.{has_type}
@@ -9,11 +7,9 @@ use Rattle.values.specs.declared.value.ColumnType.{ColumnType}
 use Rattle.values.specs.declared.value.ColumnType.TheVariants as column
 use Rattle.values.specs.declared.value.Value.{Value}
 use Rattle.values.specs.declared.value.Value.TheVariants.{Int, Text, Bool as Truth}
-use Rattle.values.specs.declared.value.ValueRef.{ValueRef}
-use Rattle.values.specs.declared.value.ValueRef.TheVariants as lent
-use Rattle.values.specs.Lent.{value_of}
 use Rattle.blocks.specs.Cuts.{IsText}
 use Rattle.blocks.specs.Column.{AllFit}
+use Rattle.std.proofs.lemmas.Grind.{common_steps}
 
 pub ints_fit_push : (xs : List ℤ) (x : ℤ) → AllFit column.Int (map Int xs) → FitsSigned w64 x → AllFit column.Int (map Int (xs ++ x ∷ []))
 ints_fit_push [] x fit one = (one, tt)
@@ -23,21 +19,10 @@ pub texts_fit : (ts : List (List ℕ)) → AllByRecursion IsText ts → AllFit c
 texts_fit [] fit = tt
 texts_fit (t ∷ ts) fit = (fit.0, texts_fit ts fit.1)
 
--- a truth is true or false
-same_or_not : (b : Bool) → (b ≡ true) ⊎ (b ≡ false)
-same_or_not true = inl refl
-same_or_not false = inr refl
-
 -- values of a type have it at each place
 pub typed_at : (ty : ColumnType) (values : List Value) (i : ℕ) (value : Value) → IsTrue (list_all (has_type ty) values) → i < length values
     → value ≡ get_or values i value → IsTrue (has_type ty value)
-typed_at ty values i value typed within read =
-    let differs : has_type ty value ≡ false → list_all (has_type ty) values ≡ false =
-    λ lacks. list_all_at (has_type ty) values i value within (ap (has_type ty) (sym read) ∙ lacks) in
-    elim (same_or_not (has_type ty value)) [
-      | inl has ↦ has
-      | inr lacks ↦ absurd (false≢true (sym (differs lacks) ∙ typed))
-    ]
+typed_at ty values i value typed within read = grind (arith, common_steps)
 
 refused : IsTrue false → ⊥
 refused h = absurd cc
@@ -47,12 +32,6 @@ pub is_int : (value : Value) → IsTrue (has_type column.Int value) → ((x : �
 is_int (Int x) typed other = other x refl
 is_int (Text t) typed other = refused typed
 is_int (Truth b) typed other = refused typed
-
--- a lent value of the type of numbers lends a number
-pub is_int_lent : (value : ValueRef) → IsTrue (has_type column.Int (value_of value)) → ((x : ℤ) → value ≡ lent.Int x → ⊥) → ⊥
-is_int_lent (lent.Int x) typed other = other x refl
-is_int_lent (lent.Text t) typed other = refused typed
-is_int_lent (lent.Bool b) typed other = refused typed
 
 pub truths_fit : (values : List Value) → IsTrue (list_all (has_type column.Bool) values) → AllFit column.Bool values
 truths_fit [] typed = tt

@@ -1,22 +1,21 @@
 -- Numbers read from their payload, and the payload of numbers that were read.
-use Rattle.std.proofs.Common.{◌≡◌, ℕ, ℤ, pos, negsuc, zero, suc, ◌+◌, ◌*◌, ◌/◌, ◌^◌, ◌<◌, ◌≤◌, Bool, true, false, cond, ltb, List, [], ◌∷◌, ◌++◌, length, take, drop, map, Result, Ok, Err, refl, sym, ap, subst, ◌∙◌, arith, FitsSigned, inl, inr}
+use Rattle.std.proofs.Common.{◌≡◌, ℕ, ℤ, pos, negsuc, zero, suc, ◌+◌, ◌*◌, ◌/◌, ◌^◌, ◌<◌, ◌≤◌, Bool, true, false, cond, ltb, List, [], ◌∷◌, ◌++◌, length, take, drop, map, Result, Ok, Err, refl, sym, ap, subst, ◌∙◌, arith, FitsSigned, inl, inr, rules}
 use Rattle.std.specs.List.{flat_map}
 use Rattle.std.specs.Int.{w64, from_be_bytes, to_be_bytes, cast_signed, cast_unsigned}
 use Rattle.std.specs.Simd.{first_chunks}
 use Rattle.std.proofs.lemmas.Bool.{cases_lt, ltb-false, le-ltb, lt-ltb}
 use Rattle.std.proofs.lemmas.Int.{to_z-of_z, of_z-to_z}
-use Rattle.std.proofs.Math.Facts.{sfits_to_z}
-use Rattle.std.proofs.lemmas.List.{length-append, length-take, length-drop, take_at, drop_at, take-append-drop, get_or-drop, get_or-take, get_or_past}
+use Rattle.std.proofs.lemmas.List.{length-take, length-drop, take-append-drop, get_or-drop}
 use Rattle.std.proofs.lemmas.Nat.{be_bytes_8, from_be_bytes-to_be_bytes_8}
 use Rattle.values.specs.declared.value.ColumnType.TheVariants as column
 use Rattle.values.specs.declared.value.Value.{Value}
 use Rattle.values.specs.declared.value.Value.TheVariants.{Int, Text, Bool as Truth}
 use Rattle.blocks.specs.declared.fault.BlockFault.{BlockFault}
 use Rattle.blocks.specs.declared.fault.BlockFault.TheVariants.{Short, Long}
-use Rattle.std.proofs.Common.{Fits as FitsBits}
 use Rattle.blocks.specs.Column.{Fits, AllFit}
 use Rattle.blocks.specs.Payload.{AreBytes, spelling}
-use Rattle.blocks.specs.Reading.{◌>>=◌, and_then, end_at, number_of, int_of, ints_at}
+use Rattle.blocks.specs.Reading.{◌>>=◌, and_then, number_of, int_of, ints_at}
+use Rattle.std.proofs.lemmas.Grind.{common_steps}
 
 -- what is left of bytes is bytes
 pub AreBytes-drop : (n : ℕ) (bytes : List ℕ) → AreBytes bytes → AreBytes (drop n bytes)
@@ -24,11 +23,7 @@ AreBytes-drop n bytes small i = rw get_or-drop (small (n + i))
 
 -- so are the first of them
 pub AreBytes-take : (n : ℕ) (bytes : List ℕ) → AreBytes bytes → AreBytes (take n bytes)
-AreBytes-take n bytes small i =
-    elim (cases_lt i n) [
-      | inl lt ↦ rw (get_or-take n bytes i 0 lt) (small i)
-      | inr le ↦ rw (get_or_past (take n bytes) i 0 (omega (arith, length-take n bytes))) (omega arith)
-    ]
+AreBytes-take n bytes small i = grind (arith, common_steps)
 
 -- ---- what a step answered
 
@@ -50,10 +45,6 @@ done x = Ok x
 pub ok_is : {A : Type 0} (x y : A) → done x ≡ done y → x ≡ y
 ok_is x y e = cc
 
-pub end_ok : (at : ℕ) (bytes : List ℕ) (values : List Value) → end_at at bytes ≡ Ok values → (bytes ≡ []) × (values ≡ [])
-end_ok at [] values e = (refl, sym (ok_is [] values e))
-end_ok at (byte ∷ bytes) values e = absurd cc
-
 -- ---- one number
 
 -- eight bytes are the spelling of the number that they spell
@@ -65,11 +56,7 @@ int_spelt bytes eight small =
 
 -- and that number is of 64 bits
 int_fits : (bytes : List ℕ) → AreBytes bytes → Fits column.Int (int_of bytes)
-int_fits bytes small =
-    let n = from_be_bytes w64 bytes in
-    let lt : n < 2 ^ 64 = omega (arith, small 0, small 1, small 2, small 3, small 4, small 5, small 6, small 7) in
-    let word : FitsBits w64 n = record { fits = lt } in
-    sfits_to_z word
+int_fits bytes small = search rules
 
 unsigned_lt : (x : ℤ) → FitsSigned w64 x → cast_unsigned w64 x < 2 ^ 64
 unsigned_lt (pos n) fits = omega (arith, fits.sfits)
@@ -86,9 +73,7 @@ int_again x fits =
 pub ints_take : (at count : ℕ) (bytes : List ℕ) (values : List Value) → AreBytes bytes → ints_at at count bytes ≡ Ok values
     → (length values ≡ count) × AllFit column.Int values × (bytes ≡ flat_map spelling values)
 unfolding ints_at
-ints_take at zero bytes values small e =
-    let nothing = end_ok at bytes values e in
-    subst (λ vs. (length vs ≡ 0) × AllFit column.Int vs × (bytes ≡ flat_map spelling vs)) (sym nothing.1) (refl, tt, nothing.0)
+ints_take at zero bytes values small e = search rules
 ints_take at (suc count) bytes values small e =
     let g =
     guard_ok (ltb (length bytes) 8) (Short at) (and_then (int_of (take 8 bytes)) (ints_at (at + 8) count (drop 8 bytes)))
@@ -109,9 +94,7 @@ ints_take at (suc count) bytes values small e =
 ints_step : (at count : ℕ) (word rest : List ℕ) → length word ≡ 8
     → ints_at at (suc count) (word ++ rest) ≡ and_then (int_of word) (ints_at (at + 8) count rest)
 unfolding ints_at
-ints_step at count word rest eight =
-    let long : ltb (length (word ++ rest)) 8 ≡ false = le-ltb _ _ (omega (arith, length-append word rest)) in
-    rw (long, take_at word rest 8 eight, drop_at word rest 8 eight) refl
+ints_step at count word rest eight = grind (arith, common_steps)
 
 -- no bytes are no numbers
 ints_none : (at : ℕ) → ints_at at 0 [] ≡ Ok []
@@ -150,9 +133,7 @@ ints_short at (suc count) bytes lt =
 pub ints_long : (at count : ℕ) (bytes : List ℕ) → 8 * count < length bytes → ints_at at count bytes ≡ Err (Long (at + 8 * count))
 unfolding ints_at
 ints_long at zero [] lt = absurd (omega arith)
-ints_long at zero (byte ∷ bytes) lt =
-    let here : at ≡ at + 8 * 0 = omega arith in
-    ap (λ n. Err (Long n)) here
+ints_long at zero (byte ∷ bytes) lt = search rules
 ints_long at (suc count) bytes lt =
     let long : 8 ≤ length bytes = omega arith in
     let place : at + 8 + 8 * count ≡ at + 8 * suc count = omega arith in

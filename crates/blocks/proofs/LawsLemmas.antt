@@ -1,20 +1,20 @@
 -- The round trip of payloads.
-use Rattle.std.proofs.Common.{◌≡◌, ℕ, ◌≤◌, Bool, false, cond, ltb, List, [], ◌∷◌, length, take, map, Ok, Err, refl, sym, ap, subst, ◌∙◌, arith}
+use Rattle.std.proofs.Common.{◌≡◌, ℕ, Bool, List, [], ◌∷◌, length, map, Ok, refl, sym, ap, ◌∙◌, arith}
 use Rattle.std.proofs.lemmas.Bool.{ltb-false, le-ltb}
 use Rattle.std.proofs.lemmas.List.{length-map}
 use Rattle.values.specs.declared.value.ColumnType.{ColumnType}
 use Rattle.values.specs.declared.value.ColumnType.TheVariants as column
 use Rattle.values.specs.declared.value.Value.{Value}
 use Rattle.values.specs.declared.value.Value.TheVariants.{Int, Text, Bool as Truth}
-use Rattle.blocks.specs.declared.fault.BlockFault.TheVariants.{Short, Long, BadPadding}
 use Rattle.blocks.specs.Column.{AllFit}
-use Rattle.blocks.specs.Payload.{AreBytes, byte_count, packed, all_bits, has_set_padding, is_true, payload_of}
+use Rattle.blocks.specs.Payload.{AreBytes, byte_count, packed, is_true, payload_of}
 use Rattle.blocks.specs.Reading.{truths_of, reading_of}
 use Rattle.blocks.specs.Laws.{IsPayload, APayloadReadsBack, WhatReadsIsAPayload, APayloadIsOfOneList}
 use Rattle.blocks.proofs.BitsLemmas.{length-packed, length-truths, packed-truths, truths-packed, unused-packed}
 use Rattle.blocks.proofs.IntsLemmas.{guard_ok, ok_is, ints_take, ints_again}
 use Rattle.blocks.proofs.TextsLemmas.{texts_take, texts_again}
 use Rattle.blocks.proofs.FitLemmas.{bits_fit}
+use Rattle.std.proofs.lemmas.Grind.{common_steps}
 
 -- ---- truths
 
@@ -32,52 +32,17 @@ map-Truth (Text t ∷ values) fit = absurd fit.0
 truths_take : (count : ℕ) (bytes : List ℕ) (values : List Value) → AreBytes bytes → truths_of count bytes ≡ Ok values
     → IsPayload column.Bool count bytes values
 unfolding truths_of
-truths_take count bytes values small e =
-    let found = map Truth (take count (all_bits bytes)) in
-    let a =
-    guard_ok (ltb (length bytes) (byte_count count)) (Short 0)
-    (cond (ltb (byte_count count) (length bytes)) (Err (Long (byte_count count)))
-    (cond (has_set_padding count bytes) (Err BadPadding) (Ok found)))
-    values e in
-    let b =
-    guard_ok (ltb (byte_count count) (length bytes)) (Long (byte_count count))
-    (cond (has_set_padding count bytes) (Err BadPadding) (Ok found)) values a.1 in
-    let c = guard_ok (has_set_padding count bytes) BadPadding (Ok found) values b.1 in
-    let enough : byte_count count ≤ length bytes = ltb-false _ _ a.0 in
-    let few : length bytes ≤ byte_count count = ltb-false _ _ b.0 in
-    let whole : length bytes ≡ byte_count count = omega (arith, enough, few) in
-    let counted : length found ≡ count = length-map (take count (all_bits bytes)) Truth ∙ length-truths count bytes whole in
-    let made : IsPayload column.Bool count bytes found = record {
-      counted = counted;
-      fit = bits_fit (take count (all_bits bytes));
-      spelt =
-          sym (ap (λ n. packed (byte_count n) (map is_true found)) counted
-          ∙ ap (packed (byte_count count)) (map-is_true (take count (all_bits bytes)))
-          ∙ packed-truths count bytes small whole c.0);
-    } in
-    subst (IsPayload column.Bool count bytes) (ok_is found values c.1) made
+truths_take count bytes values small e = grind (arith, common_steps, guard_ok, ltb-false, length-map, length-truths, bits_fit, map-is_true, packed-truths, ok_is)
 
 -- packed truths are read as these truths
 truths_again : (values : List Value) → AllFit column.Bool values
     → truths_of (length values) (packed (byte_count (length values)) (map is_true values)) ≡ Ok values
 unfolding truths_of
-truths_again values fit =
-    let bs = map is_true values in
-    let n = byte_count (length values) in
-    let counted : length bs ≡ length values = length-map values is_true in
-    let enough : ltb (length (packed n bs)) n ≡ false = le-ltb _ _ (omega (arith, length-packed n bs)) in
-    let few : ltb n (length (packed n bs)) ≡ false = le-ltb _ _ (omega (arith, length-packed n bs)) in
-    let unused : has_set_padding (length values) (packed n bs) ≡ false =
-    subst (λ k. has_set_padding k (packed (byte_count k) bs) ≡ false) counted (unused-packed bs) in
-    let back : take (length values) (all_bits (packed n bs)) ≡ bs =
-    subst (λ k. take k (all_bits (packed (byte_count k) bs)) ≡ bs) counted (truths-packed bs) in
-    rw (enough, few, unused, back, map-Truth values fit) refl
+truths_again values fit = grind (arith, common_steps, length-map, le-ltb, length-packed, unused-packed, truths-packed, map-Truth)
 
 -- the payload of truths is these, packed
 pub payload-truths : (bs : List Bool) → payload_of column.Bool (map Truth bs) ≡ packed (byte_count (length bs)) bs
-payload-truths bs =
-    ap (λ n. packed (byte_count n) (map is_true (map Truth bs))) (length-map bs Truth)
-    ∙ ap (packed (byte_count (length bs))) (map-is_true bs)
+payload-truths bs = grind (arith, common_steps, length-map, map-is_true)
 
 -- ---- the laws
 

@@ -4,6 +4,7 @@ use Rattle.std.proofs.lemmas.List.{get_or_default, length-append}
 use Rattle.values.specs.declared.limits.TheConstants.{MAX_BLOCK_VALUES}
 use Rattle.blocks.specs.Payload.{ArePacked, IsPacked, all_bits, byte_count, byte_of, packed}
 use Rattle.blocks.proofs.BitsLemmas.{byte_of-lt, length-packed, length-truths, packed-truths, packed-IsPacked, truths-packed}
+use Rattle.std.proofs.lemmas.Grind.{common_steps}
 
 -- a truth's bit at a place of its byte
 abbrev pub weight : Bool → ℕ → ℕ
@@ -143,7 +144,4 @@ module _ (count : ℕ) (bytes : List ℕ) (h : IsPacked count bytes) where
         (packed-IsPacked (truths ++ ts) (omega (arith, counted, few))))
 
     pub longer_truths : take (count + length ts) (all_bits longer) ≡ truths ++ ts
-    longer_truths =
-        ap (λ xs. take (count + length ts) (all_bits xs)) is
-        ∙ subst (λ n. take n (all_bits (packed (byte_count n) (truths ++ ts))) ≡ truths ++ ts) counted
-        (truths-packed (truths ++ ts))
+    longer_truths = grind (arith, common_steps, counted, truths-packed)

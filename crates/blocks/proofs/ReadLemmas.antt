@@ -1,5 +1,5 @@
 -- Reading texts one after the other, as a loop does.
-use Rattle.std.proofs.Common.{◌≡◌, ℕ, suc, ◌+◌, ◌-◌, ◌<◌, List, [], ◌∷◌, ◌++◌, length, Result, Ok, Err, refl, sym, ap, ◌∙◌, append_assoc, arith}
+use Rattle.std.proofs.Common.{◌≡◌, ℕ, suc, ◌+◌, ◌-◌, ◌<◌, List, [], ◌∷◌, ◌++◌, length, Result, Ok, Err, refl, sym, ap, ◌∙◌, append_assoc, arith, rules}
 use Rattle.values.specs.declared.value.Value.{Value}
 use Rattle.values.specs.declared.value.Value.TheVariants.{Text}
 use Rattle.blocks.specs.declared.fault.BlockFault.{BlockFault}
@@ -34,10 +34,7 @@ reads_on front i at next count bytes t rest total lt place e so_far =
 fault_on : (fault : BlockFault) (front : List Value) (i at count : ℕ) (bytes : List ℕ) (total : Result (List Value) BlockFault) → i < count
     → after front (texts_at i at (count - i) bytes) ≡ total → text_at i at bytes ≡ Err fault → total ≡ Err fault
 unfolding texts_at
-fault_on fault front i at count bytes total lt so_far e =
-    let left : count - i ≡ suc (count - (i + 1)) = omega arith in
-    let one : after front (texts_at i at (count - i) bytes) ≡ Err fault = rw (left, e) refl in
-    sym so_far ∙ one
+fault_on fault front i at count bytes total lt so_far e = search rules
 
 -- the fault of the next text is that of them all
 pub fails_on : (fault : BlockFault) (front : List Value) (i at count : ℕ) (bytes : List ℕ)

@@ -6,6 +6,7 @@ use Rattle.std.specs.List.{AllByRecursion}
 use Rattle.std.proofs.lemmas.List.{take_more, take-map, drop-map, map-append, get_or-drop, length-append, length-drop, length-take}
 use Rattle.std.proofs.lemmas.Option.{slice_get_within, get_or_from_slice_get}
 use Rattle.blocks.specs.Column.{Column, IsBlock}
+use Rattle.std.proofs.lemmas.Grind.{common_steps}
 
 -- one more of the run
 pub run_more : {X : Type 0} (front xs : List X) (start i : ℕ) (x : X) → slice_get xs (start + i) ≡ Some x
@@ -28,9 +29,7 @@ length-with_run front xs start i within = omega (arith, length-append front (tak
 -- a list and a run of another, each with its elements changed
 pub map-with_run : {X Y : Type 0} (f : X → Y) (front xs : List X) (start i : ℕ)
     → map f (front ++ take i (drop start xs)) ≡ map f front ++ take i (drop start (map f xs))
-map-with_run f front xs start i =
-    map-append f front (take i (drop start xs))
-    ∙ ap (λ run. map f front ++ run) (sym (take-map f i (drop start xs)) ∙ ap (take i) (sym (drop-map f start xs)))
+map-with_run f front xs start i = grind (arith, common_steps, map-append, take-map, drop-map)
 
 -- ---- truths as numbers
 

@@ -1,5 +1,5 @@
 -- Texts read from their payload, and the payload of texts that were read.
-use Rattle.std.proofs.Common.{◌≡◌, ℕ, zero, suc, ◌+◌, ◌^◌, ◌<◌, ◌≤◌, Bool, true, false, cond, ltb, List, [], ◌∷◌, ◌++◌, length, take, drop, Ok, Err, IsUtf8, refl, sym, ap, subst, ◌∙◌, append_assoc, arith}
+use Rattle.std.proofs.Common.{◌≡◌, ℕ, zero, suc, ◌+◌, ◌^◌, ◌<◌, ◌≤◌, Bool, true, false, cond, ltb, List, [], ◌∷◌, ◌++◌, length, take, drop, Ok, Err, IsUtf8, refl, sym, ap, subst, ◌∙◌, append_assoc, arith, rules}
 use Rattle.std.specs.List.{flat_map}
 use Rattle.std.specs.Int.{w16, from_be_bytes, to_be_bytes}
 use Rattle.std.specs.Str.{is_utf8}
@@ -17,7 +17,8 @@ use Rattle.blocks.specs.Cuts.{IsText}
 use Rattle.blocks.specs.Column.{AllFit}
 use Rattle.blocks.specs.Payload.{AreBytes, spelling}
 use Rattle.blocks.specs.Reading.{and_then, length_of, text_at, texts_at}
-use Rattle.blocks.proofs.IntsLemmas.{AreBytes-drop, AreBytes-take, bind_ok, guard_ok, ok_is, end_ok, done}
+use Rattle.blocks.proofs.IntsLemmas.{AreBytes-drop, AreBytes-take, bind_ok, guard_ok, ok_is, done}
+use Rattle.std.proofs.lemmas.Grind.{common_steps}
 
 -- a test that held
 test_ok : {A : Type 0} (b : Bool) (fault : BlockFault) (x y : A) → cond b (done x) (Err fault) ≡ Ok y → (b ≡ true) × (x ≡ y)
@@ -64,15 +65,7 @@ pub record Measured (bytes t rest : List ℕ) : Type 0 where
   pub counted : length rest + 2 + length t ≡ length bytes
 
 pub text_measured : (i at : ℕ) (bytes t rest : List ℕ) → text_at i at bytes ≡ Ok (t, rest) → Measured bytes t rest
-text_measured i at bytes t rest e =
-    let found = text_ok i at bytes t rest e in
-    let len = length_of bytes in
-    let body = drop 2 bytes in
-    let t-long : length t ≡ len = omega (arith, ap length found.first, length-take len body, found.long) in
-    record {
-      short = omega (arith, t-long, found.short);
-      counted = omega (arith, t-long, ap length found.others, length-drop len body, length-drop 2 bytes, found.long, found.two);
-    }
+text_measured i at bytes t rest e = grind (arith, common_steps, text_ok, length-take, length-drop)
 
 -- the front of the bytes is the spelling of a text
 record Taken (bytes t rest : List ℕ) : Type 0 where
@@ -105,9 +98,7 @@ text_takes i at bytes t rest small e =
 pub texts_take : (i at count : ℕ) (bytes : List ℕ) (values : List Value) → AreBytes bytes → texts_at i at count bytes ≡ Ok values
     → (length values ≡ count) × AllFit column.Text values × (bytes ≡ flat_map spelling values)
 unfolding texts_at
-texts_take i at zero bytes values small e =
-    let nothing = end_ok at bytes values e in
-    subst (λ vs. (length vs ≡ 0) × AllFit column.Text vs × (bytes ≡ flat_map spelling vs)) (sym nothing.1) (refl, tt, nothing.0)
+texts_take i at zero bytes values small e = search rules
 texts_take i at (suc count) bytes values small e =
     let a =
     bind_ok (text_at i at bytes) (λ found. and_then (Text found.0) (texts_at (i + 1) (at + 2 + length found.0) count found.1))
@@ -123,22 +114,7 @@ texts_take i at (suc count) bytes values small e =
 text_again : (i at : ℕ) (front t rest : List ℕ) → length front ≡ 2 → from_be_bytes w16 front ≡ length t → IsText t
     → text_at i at (front ++ (t ++ rest)) ≡ Ok (t, rest)
 unfolding text_at
-text_again i at front t rest two spelt text =
-    let bytes = front ++ (t ++ rest) in
-    let first : ltb (length bytes) 2 ≡ false = le-ltb _ _ (omega (arith, length-append front (t ++ rest))) in
-    let short : ltb MAX_TEXT_BYTES (length t) ≡ false = le-ltb _ _ text.short in
-    let long : ltb (length (t ++ rest)) (length t) ≡ false = le-ltb _ _ (omega (arith, length-append t rest)) in
-    rw (
-      first,
-      take_at front (t ++ rest) 2 two,
-      drop_at front (t ++ rest) 2 two,
-      spelt,
-      short,
-      long,
-      take_at t rest (length t) refl,
-      drop_at t rest (length t) refl,
-      is_utf8-from_IsUtf8 t text.utf8,
-    ) refl
+text_again i at front t rest two spelt text = grind (arith, common_steps, le-ltb, length-append, take_at, drop_at, is_utf8-from_IsUtf8)
 
 texts_none : (i at : ℕ) → texts_at i at 0 [] ≡ Ok []
 unfolding texts_at
@@ -170,12 +146,7 @@ pub text_found : (i at : ℕ) (bytes : List ℕ) (len : ℕ) (body t rest : List
     → len ≡ length_of bytes → len ≤ MAX_TEXT_BYTES → len ≤ length body → t ≡ take len body → rest ≡ drop len body → IsUtf8 t
     → text_at i at bytes ≡ Ok (t, rest)
 unfolding text_at
-text_found i at bytes len body t rest two body-is len-is short long t-is rest-is utf8 =
-    let a : ltb (length bytes) 2 ≡ false = le-ltb _ _ two in
-    let b : ltb MAX_TEXT_BYTES len ≡ false = le-ltb _ _ short in
-    let c : ltb (length body) len ≡ false = le-ltb _ _ long in
-    let d : is_utf8 (take len body) ≡ true = is_utf8-from_IsUtf8 (take len body) (subst IsUtf8 t-is utf8) in
-    rw (sym body-is, sym len-is, a, b, c, d, t-is, rest-is) refl
+text_found i at bytes len body t rest two body-is len-is short long t-is rest-is utf8 = grind (arith, common_steps, le-ltb, is_utf8-from_IsUtf8)
 
 -- bytes that are no text
 pub text_bad : (i at : ℕ) (bytes : List ℕ) (len : ℕ) (body t : List ℕ) → 2 ≤ length bytes → body ≡ drop 2 bytes

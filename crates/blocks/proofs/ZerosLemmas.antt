@@ -1,10 +1,11 @@
 -- Zeros that are counted.
-use Rattle.std.proofs.Common.{◌≡◌, ℕ, ℤ, pos, ◌+◌, ◌-◌, ◌≤◌, true, List, [], ◌∷◌, ◌++◌, length, take, drop, refl, sym, ap, ◌∙◌, arith}
+use Rattle.std.proofs.Common.{◌≡◌, ℕ, ℤ, pos, ◌+◌, ◌≤◌, true, List, [], ◌∷◌, ◌++◌, length, take, drop, refl, ap, arith}
 use Rattle.std.specs.List.{list_all}
 use Rattle.std.specs.Cmp.{signed_Decides}
 use Rattle.std.proofs.lemmas.Bool.{and_parts}
 use Rattle.std.proofs.lemmas.List.{drop-replicate, take-replicate, replicate-append-replicate}
 use Rattle.blocks.specs.Ints.{is_zero, zeros_of}
+use Rattle.std.proofs.lemmas.Grind.{common_steps}
 
 -- numbers that all are 0 are so many zeros
 pub zeros_are : (xs : List ℤ) → list_all is_zero xs ≡ true → xs ≡ zeros_of (length xs)
@@ -16,7 +17,4 @@ zeros_are (x ∷ xs) e =
 
 -- a run of zeros behind zeros
 pub zeros_with_run : (n m start count : ℕ) → start + count ≤ m → zeros_of (n + count) ≡ zeros_of n ++ take count (drop start (zeros_of m))
-zeros_with_run n m start count within =
-    sym (ap (λ run. zeros_of n ++ run)
-    (ap (take count) (drop-replicate start m (pos 0)) ∙ take-replicate count (m - start) (pos 0) (omega (arith, within)))
-    ∙ replicate-append-replicate n count (pos 0))
+zeros_with_run n m start count within = grind (arith, common_steps, drop-replicate, take-replicate, replicate-append-replicate)

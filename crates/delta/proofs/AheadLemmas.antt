@@ -1,18 +1,15 @@
 -- The entries ahead of a search, one by one.
-use Rattle.std.proofs.Common.{◌≡◌, ℕ, zero, suc, ◌+◌, Bool, true, T, Option, Some, None, List, [], ◌∷◌, take, drop, nat_cmp, is_gt}
+use Rattle.std.proofs.Common.{◌≡◌, ℕ, zero, suc, ◌+◌, Bool, true, T, Option, Some, None, List, [], ◌∷◌, take, drop, rules}
 use Rattle.std.proofs.Common.{sym, ap, ◌∙◌, subst, arith, Bor}
 use Rattle.std.specs.Prelude.{slice_get}
 use Rattle.std.specs.Option.{option_copied}
-use Rattle.std.specs.Ordering.{ordering_then}
 use Rattle.std.specs.Iterator.{YieldsFirstRef}
 use Rattle.std.specs.List.{list_all}
-use Rattle.std.proofs.lemmas.Bool.Decides.{nat_tests}
 use Rattle.std.proofs.lemmas.Float.{T_from_true}
 use Rattle.model.specs.declared.entry.Entry.{Entry}
-use Rattle.model.specs.declared.entry.Change.{Change}
-use Rattle.model.specs.declared.entry.Change.TheVariants.{Ins, Del, Mod}
 use Rattle.model.proofs.CallerLemmas.{both, first, second}
 use Rattle.delta.specs.Search.{base_cmp, modify_cmp, stands_before}
+use Rattle.std.proofs.lemmas.Grind.{common_steps}
 
 none_next : (es : List Entry) (n : ℕ) → drop n es ≡ [] → (◌≡◌ {A = Option Entry} None (slice_get es n)) × ([] ≡ drop (suc n) es)
 none_next [] zero is = (cc, cc)
@@ -34,10 +31,7 @@ next_is es n s t None is gives =
     let more : suc n ≡ n + 1 = omega arith in
     let none = none_next es n (sym is ∙ gives.0) in
     (none.0, gives.1 ∙ none.1 ∙ ap (λ k. drop k es) more)
-next_is es n s t (Some x) is gives =
-    let more : suc n ≡ n + 1 = omega arith in
-    let some = some_next es n x.now t (sym is ∙ gives) in
-    (some.0, some.1 ∙ ap (λ k. drop k es) more)
+next_is es n s t (Some x) is gives = grind (arith, common_steps, some_next)
 
 -- one entry more passes the test
 pub passed_more : (test : Entry → Bool) (es : List Entry) (n : ℕ) (e : Entry) → slice_get es n ≡ Some e → test e ≡ true
@@ -53,10 +47,4 @@ passed_more test es n e at yes_it h =
 
 -- what stands before all that becomes of the base row stands before its modify of a column
 pub base_is_modify : (sid col : ℕ) (e : Entry) → T (stands_before base_cmp sid e) → T (stands_before (modify_cmp col) sid e)
-base_is_modify sid col e h = by e.change e.sid h
-  where
-    by : (c : Change) (n : ℕ) → T (is_gt (ordering_then (nat_cmp sid n) (base_cmp c)))
-        → T (is_gt (ordering_then (nat_cmp sid n) (modify_cmp col c)))
-    by (Ins row) n g = g
-    by (Del key) n g = g
-    by (Mod other value) n g = grind (arith, nat_tests)
+base_is_modify sid col e h = search rules

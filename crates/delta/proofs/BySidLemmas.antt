@@ -1,9 +1,8 @@
 -- What stands at the place of a key, and before what is looked for at a SID.
-use Rattle.std.proofs.Common.{◌≡◌, ℕ, zero, suc, ◌<◌, ◌≤◌, ◌^◌, Bool, true, false, cond, not, T, Option, Some, None, is_some}
+use Rattle.std.proofs.Common.{◌≡◌, ℕ, zero, suc, ◌<◌, ◌≤◌, ◌^◌, Bool, true, false, cond, not, T, Option, Some, None, is_some, rules}
 use Rattle.std.proofs.Common.{List, [], ◌∷◌, ◌++◌, map, take, drop, nat_cmp, Less, Equal, Greater, is_lt, is_eq, is_gt, refl, sym}
 use Rattle.std.proofs.Common.{ap, ◌∙◌, subst, arith, take-append-drop}
 use Rattle.std.specs.Prelude.{◌==◌, slice_get}
-use Rattle.std.specs.Cmp.{ranked}
 use Rattle.std.specs.Ordering.{ordering_then}
 use Rattle.std.specs.FinMap.Entries.{below_all}
 use Rattle.std.specs.List.{list_all}
@@ -161,12 +160,7 @@ base_change-effect schema t x h key n split there none =
 -- ---- a row that the table has and no effect is on
 
 past_lt : (n m : ℕ) → n < m → T (not (is_gt (ordering_then (nat_cmp n m) Greater)))
-past_lt n m lt =
-    elim (nat_cmp n m) as (λ r. nat_cmp n m ≡ r → T (not (is_gt (ordering_then r Greater)))) [
-      | Less ↦ λ q. tt
-      | Equal ↦ λ q. let e : n ≡ m = ranked n m Equal (sym q) in absurd (omega arith)
-      | Greater ↦ λ q. let g : m < n = ranked n m Greater (sym q) in absurd (omega arith)
-    ] refl
+past_lt n m lt = search rules
 
 module _ (t : Table) (key : Key) (there : T (is_some (row_at t key))) where
   -- an entry stands past the key's SID
@@ -183,9 +177,7 @@ module _ (t : Table) (key : Key) (there : T (is_some (row_at t key))) where
   later_effect k (effect.Ins row) lt = both (is_later (entry_at (rank k t) (Ins row))) _ (past_lt (rank key t) (rank k t) lt) tt
   later_effect k effect.Del lt = both (is_later (entry_at (rank k t) (Del k))) _ (past_lt (rank key t) (rank k t) lt) tt
   later_effect k (effect.Mod cells) lt = later_cells k cells lt
-  later_effect k (effect.Rep row) lt =
-      both (is_later (entry_at (rank k t) (Ins row))) _ (past_lt (rank key t) (rank k t) lt)
-      (both (is_later (entry_at (rank k t) (Del k))) _ (past_lt (rank key t) (rank k t) lt) tt)
+  later_effect k (effect.Rep row) lt = search rules
 
   -- those of the keys from this one on do, where it has no effect itself
   high_later : (x : Effects) → find key_cmp key x ≡ None → T (list_all is_later (canonical_entries t (high key t x)))

@@ -1,12 +1,10 @@
 -- The changes of a list of entries in order, at the places that a search finds.
-use Rattle.std.proofs.Common.{◌≡◌, ℕ, zero, suc, ◌+◌, ◌-◌, ◌<◌, ◌≤◌, Bool, true, false, cond, not, ◌&&◌, ◌||◌, T, Option, Some, None, is_some, List, [], ◌∷◌, ◌++◌, map, filter, length, take, drop, set, get_or, remove, nat_cmp, Ordering, Less, Equal, Greater, is_lt, is_eq, is_gt, refl, sym, ap, ◌∙◌, subst, arith, take-append-drop, drop-cons, length-take, inl, inr}
+use Rattle.std.proofs.Common.{◌≡◌, ℕ, zero, suc, ◌+◌, ◌-◌, ◌<◌, ◌≤◌, Bool, true, false, cond, not, ◌&&◌, ◌||◌, T, Option, Some, None, is_some, List, [], ◌∷◌, ◌++◌, map, filter, length, take, drop, set, get_or, remove, nat_cmp, Ordering, Less, Equal, Greater, is_lt, is_eq, is_gt, refl, sym, ap, ◌∙◌, subst, arith, take-append-drop, drop-cons, length-take, inl, inr, rules}
 use Rattle.std.specs.Prelude.{◌==◌, IsSomeAnd}
 use Rattle.std.proofs.lemmas.Float.{T_from_true}
-use Rattle.std.specs.Ordering.{eq_by_cmp, ordering_then, match_ordering}
-use Rattle.std.specs.Cmp.{ranked, tied_itself, nat_cmp_total}
+use Rattle.std.specs.Ordering.{ordering_then}
 use Rattle.std.specs.List.{list_all, list_any}
 use Rattle.std.proofs.lemmas.Bool.{cases_lt, eqb-true}
-use Rattle.std.proofs.lemmas.Bool.Decides.{nat_tests}
 use Rattle.std.proofs.lemmas.List.{get_or-take, drop-drop, drop-take, drop_all}
 use Rattle.std.proofs.lemmas.List.Elements.{filter-append}
 use Rattle.values.specs.Orders.{key_cmp, key_cmp_total, key_cmp-IsAntisymmetric}
@@ -26,6 +24,7 @@ use Rattle.delta.specs.Changes.{modifies_column, modify_count, has_cell}
 use Rattle.delta.specs.Tree.{Tree}
 use Rattle.delta.proofs.SearchLemmas.{is_true, greater, nat_cmp-greater, at_index}
 use Rattle.delta.proofs.Words.{with_run}
+use Rattle.std.proofs.lemmas.Grind.{common_steps}
 
 -- ---- tests of lists
 
@@ -45,9 +44,7 @@ all_from p q f (x ∷ xs) h = both (q x) _ (f x (first (p x) _ h)) (all_from p q
 
 pub all_both : {A : Type 0} (p q : A → Bool) (xs : List A) → T (list_all p xs) → T (list_all q xs) → T (list_all (λ x. p x && q x) xs)
 all_both p q [] h g = tt
-all_both p q (x ∷ xs) h g =
-    let here : T (p x && q x) = both (p x) _ (first (p x) _ h) (first (q x) _ g) in
-    both (p x && q x) _ here (all_both p q xs (second (p x) _ h) (second (q x) _ g))
+all_both p q (x ∷ xs) h g = grind (arith, common_steps, all_both p q xs (second (p x) _ h) (second (q x) _ g), both, first, second)
 
 none_any : {A : Type 0} (p : A → Bool) (xs : List A) → list_any p xs ≡ false → T (list_all (λ x. not (p x)) xs)
 none_any p [] h = tt
@@ -99,10 +96,7 @@ module _ (key_cols sid : ℕ) (change : Change) (cmp : Change → Ordering) (sam
   put_entry-past : (xs ys : List Entry) → T (list_all (stands_before cmp sid) xs)
       → put_entry key_cols put (xs ++ ys) ≡ xs ++ put_entry key_cols put ys
   put_entry-past [] ys h = refl
-  put_entry-past (x ∷ xs) ys h =
-      let after : entry_cmp key_cols put x ≡ Greater = sym (order_is x) ∙ greater _ (first (stands_before cmp sid x) _ h) in
-      ap (λ r. match_ordering r (put ∷ x ∷ (xs ++ ys)) (put ∷ (xs ++ ys)) (x ∷ put_entry key_cols put (xs ++ ys))) after
-      ∙ ap (λ zs. x ∷ zs) (put_entry-past xs ys (second (stands_before cmp sid x) _ h))
+  put_entry-past (x ∷ xs) ys h = grind (arith, common_steps, put_entry-past xs ys (second (stands_before cmp sid x) _ h), order_is, greater, first, second)
 
   -- how many of the entries tie with it, of which the first may be one
   abbrev pub tie_count : List Entry → ℕ
@@ -112,14 +106,7 @@ module _ (key_cols sid : ℕ) (change : Change) (cmp : Change → Ordering) (sam
   put_entry-before : (ys : List Entry) → T (list_all (λ y. not (stands_before cmp sid y)) ys)
       → put_entry key_cols put ys ≡ put ∷ drop (tie_count ys) ys
   put_entry-before [] h = refl
-  put_entry-before (y ∷ ys) h =
-      elim (entry_cmp key_cols put y) as
-      (λ r. entry_cmp key_cols put y ≡ r → match_ordering r (put ∷ y ∷ ys) (put ∷ ys) (y ∷ put_entry key_cols put ys)
-      ≡ put ∷ drop (cond (is_eq r) 1 0) (y ∷ ys)) [
-        | Less ↦ λ e. refl
-        | Equal ↦ λ e. refl
-        | Greater ↦ λ e. absurd (subst (λ r. T (not (is_gt r))) (order_is y ∙ e) (first (not (stands_before cmp sid y)) _ h))
-      ] refl
+  put_entry-before (y ∷ ys) h = search rules
 
   pub put_entry-split : (es : List Entry) (n : ℕ) → IsSplit (stands_before cmp sid) es n
       → put_entry key_cols put es ≡ with_run es n (n + tie_count (drop n es)) put
@@ -143,24 +130,8 @@ is_kept sid e = not ((e.sid == sid) && is_modify e.change)
 
 -- ---- which entries tie
 
-and_eq : (r o : Ordering) → is_eq (ordering_then r o) ≡ is_eq r && is_eq o
-and_eq Less o = refl
-and_eq Equal o = refl
-and_eq Greater o = refl
-
-different : (n m : ℕ) → (n ≡ m → ⊥) → (n == m) ≡ false
-different n m h = grind (arith, nat_tests)
-
-alike : (n m : ℕ) → n ≡ m → (n == m) ≡ true
-alike n m h = grind (arith, nat_tests)
-
 is_eq-nat_cmp : (n m : ℕ) → is_eq (nat_cmp n m) ≡ (m == n)
-is_eq-nat_cmp n m =
-    elim (nat_cmp n m) as (λ r. nat_cmp n m ≡ r → is_eq r ≡ (m == n)) [
-      | Less ↦ λ e. let lt : n < m = ranked n m Less (sym e) in sym (different m n (λ s. omega arith))
-      | Equal ↦ λ e. let is : n ≡ m = ranked n m Equal (sym e) in sym (alike m n (sym is))
-      | Greater ↦ λ e. let gt : m < n = ranked n m Greater (sym e) in sym (different m n (λ s. omega arith))
-    ] refl
+is_eq-nat_cmp n m = search rules
 
 module _ (key_cols sid : ℕ) where
   pub insert_cmp-same : (row : Row) (c : Change) → insert_cmp key_cols (key_of key_cols row) c ≡ change_cmp key_cols (Ins row) c
@@ -181,9 +152,7 @@ module _ (key_cols sid : ℕ) where
   -- an entry ties where it stands at the SID and its change ties
   pub tie_is : (change : Change) (y : Entry)
       → is_eq (entry_cmp key_cols (entry_at sid change) y) ≡ (y.sid == sid) && is_eq (change_cmp key_cols change y.change)
-  tie_is change y =
-      and_eq (nat_cmp sid y.sid) (change_cmp key_cols change y.change)
-      ∙ ap (λ b. b && is_eq (change_cmp key_cols change y.change)) (is_eq-nat_cmp sid y.sid)
+  tie_is change y = search rules
 
   -- ---- inserts
 
@@ -191,11 +160,7 @@ module _ (key_cols sid : ℕ) where
       → is_some (cond (here && is_insert_of key_cols key c) (row_of c) other) ≡ false
       → T (not (here && is_insert_of key_cols key c) && rest)
   not_inserted_here key false c other rest f h = both true rest tt (f h)
-  not_inserted_here key true (Ins row) other rest f h =
-      elim (eq_by_cmp key_cmp key (key_of key_cols row)) as (λ b. is_some (cond b (Some row) other) ≡ false → T (not b && rest)) [
-        | true ↦ λ g. cc
-        | false ↦ λ g. both true rest tt (f g)
-      ] h
+  not_inserted_here key true (Ins row) other rest f h = search rules
   not_inserted_here key true (Del k) other rest f h = both true rest tt (f h)
   not_inserted_here key true (Mod col value) other rest f h = both true rest tt (f h)
 
@@ -217,14 +182,7 @@ module _ (key_cols sid : ℕ) where
       → T (list_all (λ e. not (is_insert_at key_cols sid (key_of key_cols row) e)) ys)
       → n + tie_count key_cols sid (Ins row) (insert_cmp key_cols (key_of key_cols row)) (insert_cmp-same row) ys ≡ n
   no_insert_ties row n [] h = omega arith
-  no_insert_ties row n (y ∷ ys) h =
-      let key = key_of key_cols row in
-      let tie =
-      tie_is (Ins row) y
-      ∙ ap (λ b. (y.sid == sid) && b) (insert_tie row y.change)
-      ∙ false_of (is_insert_at key_cols sid key y) (first (not (is_insert_at key_cols sid key y)) _ h) in
-      let none : n + 0 ≡ n = omega arith in
-      ap (λ b. n + cond b 1 0) tie ∙ none
+  no_insert_ties row n (y ∷ ys) h = search rules
 
   -- an insert of a key that isn't there
   pub put_ins-split : (row : Row) (es : List Entry) (n : ℕ)
@@ -252,9 +210,7 @@ module _ (key_cols sid : ℕ) where
   modify_ties : (col : ℕ) (value : Value) (ys : List Entry) → T (list_all (λ e. not ((e.sid == sid) && is_delete e.change)) ys)
       → tie_count key_cols sid (Mod col value) (modify_cmp col) (modify_cmp-same col value) ys ≡ modify_count sid col ys
   modify_ties col value [] h = refl
-  modify_ties col value (y ∷ ys) h =
-      ap (λ b. cond b 1 0) (tie_is (Mod col value) y
-      ∙ modify_tie col value (y.sid == sid) y.change (first (not ((y.sid == sid) && is_delete y.change)) _ h))
+  modify_ties col value (y ∷ ys) h = search rules
 
   -- a modify, where no delete stands
   pub put_mod-split : (col : ℕ) (value : Value) (es : List Entry) (n : ℕ) → IsSplit (stands_before (modify_cmp col) sid) es n
@@ -271,79 +227,23 @@ module _ (key_cols sid : ℕ) where
   abbrev kept : Entry → Bool
   kept e = is_kept sid e
 
-  -- the order of two SIDs as a test of equality
-  below_sid : (n : ℕ) → nat_cmp sid n ≡ Less → (n == sid) ≡ false
-  below_sid n e = let lt : sid < n = ranked sid n Less (sym e) in different n sid (λ s. omega arith)
-
-  above_sid : (n : ℕ) → nat_cmp sid n ≡ Greater → (n == sid) ≡ false
-  above_sid n e = let gt : n < sid = ranked sid n Greater (sym e) in different n sid (λ s. omega arith)
-
-  at_sid : (n : ℕ) → nat_cmp sid n ≡ Equal → (n == sid) ≡ true
-  at_sid n e = let is : sid ≡ n = ranked sid n Equal (sym e) in alike n sid (sym is)
-
   kept_before : (x : Entry) → T (stands_before base_cmp sid x) → T (kept x)
-  kept_before x h =
-      elim (nat_cmp sid x.sid) as (λ r. nat_cmp sid x.sid ≡ r → T (is_gt (ordering_then r (base_cmp x.change))) → T (kept x)) [
-        | Less ↦ λ e g. absurd g
-        | Equal ↦ λ e g. subst (λ b. T (not (b && is_modify x.change))) (sym (at_sid x.sid e)) (insert_kept x.change g)
-        | Greater ↦ λ e g. subst (λ b. T (not (b && is_modify x.change))) (sym (above_sid x.sid e)) tt
-      ] refl h
-    where
-      insert_kept : (c : Change) → T (is_gt (base_cmp c)) → T (not (is_modify c))
-      insert_kept (Ins row) g = tt
-      insert_kept (Del key) g = tt
-      insert_kept (Mod col value) g = absurd g
+  kept_before x h = search rules
 
   kept_past : (z : Entry) → T (not (stands_before past_cmp sid z)) → T (kept z)
-  kept_past z h =
-      elim (nat_cmp sid z.sid) as (λ r. nat_cmp sid z.sid ≡ r → T (not (is_gt (ordering_then r Greater))) → T (kept z)) [
-        | Less ↦ λ e g. subst (λ b. T (not (b && is_modify z.change))) (sym (below_sid z.sid e)) tt
-        | Equal ↦ λ e g. absurd g
-        | Greater ↦ λ e g. absurd g
-      ] refl h
+  kept_past z h = search rules
 
   -- what stands at the SID, is no insert and no delete, is a modify
   not_kept : (y : Entry) → T (stands_before past_cmp sid y) → T (not (stands_before base_cmp sid y))
       → T (not ((y.sid == sid) && is_delete y.change)) → T (not (kept y))
-  not_kept y p b d =
-      elim (nat_cmp sid y.sid) as
-      (λ r. nat_cmp sid y.sid ≡ r → T (is_gt (ordering_then r Greater)) → T (not (is_gt (ordering_then r (base_cmp y.change))))
-      → T (not (kept y))) [
-        | Less ↦ λ e g f. absurd g
-        | Equal ↦ λ e g f. subst (λ here. T (not (here && is_delete y.change)) → T (not (not (here && is_modify y.change))))
-            (sym (at_sid y.sid e)) (modify_goes y.change f) d
-        | Greater ↦ λ e g f. absurd f
-      ] refl p b
-    where
-      modify_goes : (c : Change) → T (not (is_gt (base_cmp c))) → T (not (is_delete c)) → T (not (not (is_modify c)))
-      modify_goes (Ins row) f g = absurd f
-      modify_goes (Del key) f g = absurd g
-      modify_goes (Mod col value) f g = tt
+  not_kept y p b d = search rules
 
   -- an entry before the base row's changes isn't past the SID
   pub base_is_past : (y : Entry) → T (stands_before base_cmp sid y) → T (stands_before past_cmp sid y)
-  base_is_past y h =
-      elim (nat_cmp sid y.sid) as (λ r. T (is_gt (ordering_then r (base_cmp y.change))) → T (is_gt (ordering_then r Greater))) [
-        | Less ↦ λ g. absurd g
-        | Equal ↦ λ g. tt
-        | Greater ↦ λ g. tt
-      ] h
+  base_is_past y h = search rules
 
   not_base : (z : Entry) → T (not (stands_before past_cmp sid z)) → T (not (stands_before base_cmp sid z))
-  not_base z h = by (stands_before base_cmp sid z) (stands_before past_cmp sid z) (base_is_past z) h
-    where
-      by : (b p : Bool) → (T b → T p) → T (not p) → T (not b)
-      by true true f g = g
-      by true false f g = absurd (f tt)
-      by false p f g = tt
-
-  pub past_sid : (z : Entry) → T (not (stands_before past_cmp sid z)) → (z.sid == sid) ≡ false
-  past_sid z h =
-      elim (nat_cmp sid z.sid) as (λ r. nat_cmp sid z.sid ≡ r → T (not (is_gt (ordering_then r Greater))) → (z.sid == sid) ≡ false) [
-        | Less ↦ λ e g. below_sid z.sid e
-        | Equal ↦ λ e g. absurd g
-        | Greater ↦ λ e g. absurd g
-      ] refl h
+  not_base z h = search rules
 
   -- the base row's changes don't start past the SID
   pub base-le-past : (es : List Entry) (n m : ℕ) → IsSplit (stands_before base_cmp sid) es n
@@ -370,12 +270,7 @@ module _ (key_cols sid : ℕ) where
   no_base_ties : (key : Key) (zs : List Entry) → T (list_all (λ e. not (stands_before past_cmp sid e)) zs)
       → drop (tie_count key_cols sid (Del key) base_cmp (base_cmp-same key) zs) zs ≡ zs
   no_base_ties key [] h = refl
-  no_base_ties key (z ∷ zs) h =
-      let tie =
-      tie_is (Del key) z
-      ∙ ap (λ b. b && is_eq (change_cmp key_cols (Del key) z.change))
-      (past_sid z (first (not (stands_before past_cmp sid z)) _ h)) in
-      ap (λ b. drop (cond b 1 0) (z ∷ zs)) tie
+  no_base_ties key (z ∷ zs) h = search rules
 
   -- without the modifies of the base row
   pub filter-kept : (es : List Entry) (n m : ℕ) → IsSplit (stands_before base_cmp sid) es n
@@ -438,18 +333,7 @@ module _ (key_cols sid : ℕ) where
     before e = stands_before (insert_cmp key_cols key) sid e
 
     pub not_match : (x : Entry) → T (before x) → T (not (matches x))
-    not_match x h =
-        elim (nat_cmp sid x.sid) as
-        (λ r. nat_cmp sid x.sid ≡ r → T (is_gt (ordering_then r (insert_cmp key_cols key x.change))) → T (not (matches x))) [
-          | Less ↦ λ e g. absurd g
-          | Equal ↦ λ e g. subst (λ b. T (not (b && is_insert_of key_cols key x.change))) (sym (at_sid x.sid e)) (other_key x.change g)
-          | Greater ↦ λ e g. subst (λ b. T (not (b && is_insert_of key_cols key x.change))) (sym (above_sid x.sid e)) tt
-        ] refl h
-      where
-        other_key : (c : Change) → T (is_gt (insert_cmp key_cols key c)) → T (not (is_insert_of key_cols key c))
-        other_key (Ins row) g = subst (λ r. T (not (is_eq r))) (sym (greater (key_cmp key (key_of key_cols row)) g)) tt
-        other_key (Del k) g = absurd g
-        other_key (Mod col value) g = absurd g
+    not_match x h = search rules
 
     equal : (r : Ordering) → T (is_eq r) → r ≡ Equal
     equal Less p = absurd p
@@ -467,36 +351,12 @@ module _ (key_cols sid : ℕ) where
 
     -- an entry before one that matches stands before the key
     before_match : (y z : Entry) → entry_cmp key_cols y z ≡ Less → T (matches z) → T (before y)
-    before_match y z b m =
-        let at : (z.sid == sid) ≡ true = is_true (z.sid == sid) (first (z.sid == sid) (is_insert_of key_cols key z.change) m) in
-        let is : z.sid ≡ sid = eqb-true z.sid sid at in
-        let here : T (is_insert_of key_cols key z.change) = second (z.sid == sid) (is_insert_of key_cols key z.change) m in
-        elim (nat_cmp y.sid z.sid) as
-        (λ r. nat_cmp y.sid z.sid ≡ r → ordering_then r (change_cmp key_cols y.change z.change) ≡ Less → T (before y)) [
-          | Less ↦ λ e g.
-              let lt : y.sid < z.sid = ranked y.sid z.sid Less (sym e) in
-              let past : y.sid < sid = omega arith in
-              subst (λ r. T (is_gt (ordering_then r (insert_cmp key_cols key y.change)))) (sym (nat_cmp-greater sid y.sid past)) tt
-          | Equal ↦ λ e g.
-              let level : y.sid ≡ z.sid = ranked y.sid z.sid Equal (sym e) in
-              let same : nat_cmp sid y.sid ≡ Equal = ap (nat_cmp sid) (level ∙ is) ∙ tied_itself nat_cmp_total sid in
-              subst (λ r. T (is_gt (ordering_then r (insert_cmp key_cols key y.change)))) (sym same)
-              (subst (λ r. T (is_gt r)) (sym (smaller_key y.change z.change g here)) tt)
-          | Greater ↦ λ e g. cc
-        ] refl b
+    before_match y z b m = grind (arith, common_steps, is_true, first, eqb-true, second, nat_cmp, is_gt, nat_cmp-greater, smaller_key)
 
     pub none_after : (y : Entry) (zs : List Entry) → T (not (before y)) → T (list_all (λ z. is_lt (entry_cmp key_cols y z)) zs)
         → T (list_all (λ z. not (matches z)) zs)
     none_after y [] h g = tt
-    none_after y (z ∷ zs) h g =
-        both (not (matches z)) _
-        (unless (matches z) (before y) (before_match y z (less _ (first (is_lt (entry_cmp key_cols y z)) _ g))) h)
-        (none_after y zs h (second (is_lt (entry_cmp key_cols y z)) _ g))
-      where
-        unless : (m b : Bool) → (T m → T b) → T (not b) → T (not m)
-        unless true true f h = h
-        unless true false f h = absurd (f tt)
-        unless false b f h = tt
+    none_after y (z ∷ zs) h g = grind (arith, common_steps, none_after y zs h (second (is_lt (entry_cmp key_cols y z)) _ g), both, before_match, less, first, second)
 
     skipped : (x : Entry) (es : List Entry) → T (not (matches x))
         → inserted_row key_cols sid key (x ∷ es) ≡ inserted_row key_cols sid key es
@@ -514,11 +374,7 @@ module _ (key_cols sid : ℕ) where
     -- the first entry that doesn't stand before the key matches
     first_matches : (y : Entry) (zs : List Entry) → T (not (before y)) → T (list_all (λ z. is_lt (entry_cmp key_cols y z)) zs)
         → is_some (inserted_row key_cols sid key (y ∷ zs)) ≡ true → T (matches y)
-    first_matches y zs h g some = by (matches y) some
-      where
-        by : (b : Bool) → is_some (cond b (row_of y.change) (inserted_row key_cols sid key zs)) ≡ true → T b
-        by true e = tt
-        by false e = let none = ap is_some (none_inserted zs (none_after y zs h g)) in cc
+    first_matches y zs h g some = grind (arith, common_steps, none_inserted, none_after)
 
     pub ordered_drop : (n : ℕ) (es : List Entry) → T (are_ordered key_cols es) → T (are_ordered key_cols (drop n es))
     ordered_drop zero es h = h
@@ -542,21 +398,12 @@ module _ (key_cols sid : ℕ) where
     map_others : (f : Entry → Entry) (xs : List Entry) → T (list_all (λ x. not (matches x)) xs)
         → map (λ e. cond (matches e) (f e) e) xs ≡ xs
     map_others f [] h = refl
-    map_others f (x ∷ xs) h =
-        let same = ap (λ b. cond b (f x) x) (false_of (matches x) (first (not (matches x)) _ h)) in
-        let rest = map_others f xs (second (not (matches x)) _ h) in
-        λ i. same i ∷ rest i
+    map_others f (x ∷ xs) h = grind (arith, common_steps, map_others f xs (second (not (matches x)) _ h), false_of, first, second)
 
     map_one : (f : Entry → Entry) (xs zs : List Entry) (y : Entry) → T (list_all (λ x. not (matches x)) xs) → T (matches y)
         → T (list_all (λ x. not (matches x)) zs) → map (λ e. cond (matches e) (f e) e) (xs ++ y ∷ zs) ≡ xs ++ f y ∷ zs
-    map_one f [] zs y h m g =
-        let here = ap (λ b. cond b (f y) y) (is_true (matches y) m) in
-        let rest = map_others f zs g in
-        λ i. here i ∷ rest i
-    map_one f (x ∷ xs) zs y h m g =
-        let same = ap (λ b. cond b (f x) x) (false_of (matches x) (first (not (matches x)) _ h)) in
-        let rest = map_one f xs zs y (second (not (matches x)) _ h) m g in
-        λ i. same i ∷ rest i
+    map_one f [] zs y h m g = grind (arith, common_steps, is_true, map_others)
+    map_one f (x ∷ xs) zs y h m g = grind (arith, common_steps, map_one f xs zs y (second (not (matches x)) _ h) m g, false_of, first, second)
 
     -- what the place of an insert that is there has
     pub record HasInsert (es : List Entry) (n : ℕ) : Type 0 where

@@ -1,10 +1,10 @@
 -- How many inserts and deletes entries have, part by part.
-use Rattle.std.proofs.Common.{◌≡◌, ℕ, ◌+◌, ◌≤◌, List, [], ◌∷◌, ◌++◌, map, length, sym, ap, ◌∙◌, arith, zero-add}
+use Rattle.std.proofs.Common.{◌≡◌, ℕ, ◌+◌, ◌≤◌, List, [], ◌∷◌, ◌++◌, length, sym, arith, zero-add, rules}
 use Rattle.model.specs.declared.entry.Entry.{Entry}
 use Rattle.model.specs.declared.entry.Change.{Change}
 use Rattle.model.specs.declared.entry.Change.TheVariants.{Ins, Del, Mod}
-use Rattle.model.specs.Merging.{inserted_rows}
-use Rattle.model.specs.Places.{deleted_keys, insert_count, delete_count}
+use Rattle.model.specs.Places.{insert_count, delete_count}
+use Rattle.std.proofs.lemmas.Grind.{common_steps}
 
 -- how many rows a change inserts
 abbrev pub insert_worth : Change → ℕ
@@ -20,21 +20,11 @@ delete_worth (Mod col value) = 0
 
 -- one entry in front adds what its change is worth
 pub insert_count-cons : (e : Entry) (es : List Entry) → insert_count (e ∷ es) ≡ insert_worth e.change + insert_count es
-insert_count-cons e es = by e.change
-  where
-    by : (c : Change) → length (inserted_rows (c ∷ map (λ x. x.change) es)) ≡ insert_worth c + insert_count es
-    by (Ins row) = omega arith
-    by (Del key) = omega arith
-    by (Mod col value) = omega arith
+insert_count-cons e es = search rules
 
 -- among the deletes too
 pub delete_count-cons : (e : Entry) (es : List Entry) → delete_count (e ∷ es) ≡ delete_worth e.change + delete_count es
-delete_count-cons e es = by e.change
-  where
-    by : (c : Change) → length (deleted_keys (c ∷ map (λ x. x.change) es)) ≡ delete_worth c + delete_count es
-    by (Ins row) = omega arith
-    by (Del key) = omega arith
-    by (Mod col value) = omega arith
+delete_count-cons e es = search rules
 
 step_add : (w a b n m : ℕ) → n ≡ w + m → m ≡ a + b → n ≡ (w + a) + b
 step_add w a b n m p q = omega arith
@@ -42,16 +32,12 @@ step_add w a b n m p q = omega arith
 -- lists have as many inserts as their parts together
 pub insert_count-append : (xs ys : List Entry) → insert_count (xs ++ ys) ≡ insert_count xs + insert_count ys
 insert_count-append [] ys = sym (zero-add (insert_count ys))
-insert_count-append (x ∷ xs) ys =
-    step_add (insert_worth x.change) (insert_count xs) (insert_count ys) _ _ (insert_count-cons x (xs ++ ys)) (insert_count-append xs ys)
-    ∙ ap (λ n. n + insert_count ys) (sym (insert_count-cons x xs))
+insert_count-append (x ∷ xs) ys = grind (arith, common_steps, insert_count-append xs ys, step_add, insert_count-cons)
 
 -- and as many deletes
 pub delete_count-append : (xs ys : List Entry) → delete_count (xs ++ ys) ≡ delete_count xs + delete_count ys
 delete_count-append [] ys = sym (zero-add (delete_count ys))
-delete_count-append (x ∷ xs) ys =
-    step_add (delete_worth x.change) (delete_count xs) (delete_count ys) _ _ (delete_count-cons x (xs ++ ys)) (delete_count-append xs ys)
-    ∙ ap (λ n. n + delete_count ys) (sym (delete_count-cons x xs))
+delete_count-append (x ∷ xs) ys = grind (arith, common_steps, delete_count-append xs ys, step_add, delete_count-cons)
 
 worth_le : (c : Change) → insert_worth c + delete_worth c ≤ 1
 worth_le (Ins row) = omega arith

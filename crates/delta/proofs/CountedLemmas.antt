@@ -1,10 +1,8 @@
 -- What is known of a lawful list of entries, in the words of the counted tree.
-use Rattle.std.proofs.Common.{◌≡◌, Option, ℕ, zero, suc, ◌+◌, ◌<◌, ◌≤◌, ◌^◌, Bool, true, false, cond, T, List, [], ◌∷◌, ◌++◌}
-use Rattle.std.proofs.Common.{length, take, drop, filter, get_or, set, nat_cmp, Less, Equal, Greater, is_lt, refl, sym, ap, subst}
-use Rattle.std.proofs.Common.{arith}
-use Rattle.std.specs.Prelude.{pos, ◌+ℤ◌, ◌-ℤ◌, nat_lt, Some, None, slice_get}
+use Rattle.std.proofs.Common.{◌≡◌, Option, ℕ, zero, suc, ◌+◌, ◌<◌, ◌≤◌, ◌^◌, Bool, true, false, T, List, [], ◌∷◌, ◌++◌, arith, rules}
+use Rattle.std.proofs.Common.{length, take, drop, filter, get_or, set, nat_cmp, Less, is_lt, refl, ap, subst}
+use Rattle.std.specs.Prelude.{pos, ◌-ℤ◌, nat_lt, Some, None, slice_get}
 use Rattle.std.specs.Ordering.{ordering_then}
-use Rattle.std.specs.Cmp.{ranked}
 use Rattle.std.specs.List.{list_all, All, AllByRecursion}
 use Rattle.std.specs.List.Sorted.{IsPartitionedBy}
 use Rattle.std.proofs.lemmas.Int.{ints}
@@ -22,6 +20,7 @@ use Rattle.counted.specs.Sums as sums
 use Rattle.delta.specs.Search.{IsSplit}
 use Rattle.delta.proofs.CountLemmas.{insert_worth, delete_worth, insert_count-cons, delete_count-cons}
 use Rattle.delta.proofs.SearchLemmas.{all_after, split_at}
+use Rattle.std.proofs.lemmas.Grind.{common_steps}
 
 -- ---- sums
 
@@ -36,36 +35,12 @@ total-is (e ∷ es) = omega (arith, ints, weight_is e.change, total-is es, inser
 
 pub shift-is : (sid : ℕ) (es : List Entry) → sums.shift_before sid es ≡ total (filter (λ e. nat_lt e.sid sid) es)
 shift-is sid [] = refl
-shift-is sid (e ∷ es) =
-    let rest = shift-is sid es in
-    elim (nat_lt e.sid sid) as
-    (λ b. cond b (weight_of e.change) (pos 0) +ℤ sums.shift_before sid es ≡ total
-    (cond b (e ∷ filter (λ x. nat_lt x.sid sid) es) (filter (λ x. nat_lt x.sid sid) es))) [
-      | true ↦ omega (arith, ints)
-      | false ↦ omega (arith, ints)
-    ]
+shift-is sid (e ∷ es) = grind (arith, common_steps, shift-is sid es, ints)
 
 -- ---- order
 
-by_change : (key_cols n : ℕ) (x y : Change) → change_cmp key_cols x y ≡ Less → next_sid n x ≤ n
-by_change key_cols n (Ins row) y h = omega arith
-by_change key_cols n (Del key) (Ins other) h = cc
-by_change key_cols n (Del key) (Del other) h = cc
-by_change key_cols n (Del key) (Mod col value) h = cc
-by_change key_cols n (Mod col value) y h = omega arith
-
-next_most : (n : ℕ) (x : Change) → next_sid n x ≤ n + 1
-next_most n (Ins row) = omega arith
-next_most n (Del key) = omega arith
-next_most n (Mod col value) = omega arith
-
 by_order : (key_cols n m : ℕ) (x y : Change) → ordering_then (nat_cmp n m) (change_cmp key_cols x y) ≡ Less → next_sid n x ≤ m
-by_order key_cols n m x y h =
-    elim (nat_cmp n m) as (λ r. nat_cmp n m ≡ r → ordering_then r (change_cmp key_cols x y) ≡ Less → next_sid n x ≤ m) [
-      | Less ↦ λ e b. let lt : n < m = ranked n m Less (sym e) in let most = next_most n x in omega arith
-      | Equal ↦ λ e b. let same : n ≡ m = ranked n m Equal (sym e) in let le = by_change key_cols n x y b in omega arith
-      | Greater ↦ λ e b. cc
-    ] refl h
+by_order key_cols n m x y h = search rules
 
 next_le : (key_cols : ℕ) (x y : Entry) → entry_cmp key_cols x y ≡ Less → next_sid x.sid x.change ≤ y.sid
 next_le key_cols x y h = by_order key_cols x.sid y.sid x.change y.change h
@@ -73,19 +48,11 @@ next_le key_cols x y h = by_order key_cols x.sid y.sid x.change y.change h
 all_next : (key_cols : ℕ) (x : Entry) (es : List Entry) → T (list_all (λ y. is_lt (entry_cmp key_cols x y)) es)
     → AllByRecursion (λ y. next_sid x.sid x.change ≤ y.sid) es
 all_next key_cols x [] h = tt
-all_next key_cols x (y ∷ es) h = (
-  next_le key_cols x y (less _ (first (is_lt (entry_cmp key_cols x y)) _ h)),
-  all_next key_cols x es
-      (second (is_lt (entry_cmp key_cols x y)) _ h),
-)
+all_next key_cols x (y ∷ es) h = grind (arith, common_steps, all_next key_cols x es (second (is_lt (entry_cmp key_cols x y)) _ h), next_le, less, first, second)
 
 pub ordered_from_lawful : (key_cols : ℕ) (es : List Entry) → T (are_ordered key_cols es) → IsOrdered es
 ordered_from_lawful key_cols [] h = tt
-ordered_from_lawful key_cols (x ∷ es) h = (
-  all_next key_cols x es (first (list_all (λ y. is_lt (entry_cmp key_cols x y)) es) _ h),
-  ordered_from_lawful key_cols es
-      (second (list_all (λ y. is_lt (entry_cmp key_cols x y)) es) _ h),
-)
+ordered_from_lawful key_cols (x ∷ es) h = grind (arith, common_steps, ordered_from_lawful key_cols es (second (list_all (λ y. is_lt (entry_cmp key_cols x y)) es) _ h), all_next, first, second)
 
 pub placed_from_lawful : (es : List Entry) → All (λ e. e.sid < 2 ^ 32) es → ArePlaced es
 placed_from_lawful es h = recursion_from_All (λ (e : Entry). e.sid < 2 ^ 32) es h

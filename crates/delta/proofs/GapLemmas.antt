@@ -1,9 +1,7 @@
 -- Where an insert comes to stand at a position, by the place where a descent finds it.
-use Rattle.std.proofs.Common.{◌≡◌, ℕ, zero, suc, ◌+◌, ◌<◌, ◌≤◌, ◌⊎◌, inl, inr, Bool, true, false, ◌&&◌, ◌||◌, T, List, [], ◌∷◌}
-use Rattle.std.proofs.Common.{map, take, get_or, nat_cmp, Ordering, Less, Equal, Greater, is_lt, refl, sym, ap, ◌∙◌, subst, arith}
+use Rattle.std.proofs.Common.{◌≡◌, ℕ, zero, suc, ◌+◌, ◌<◌, ◌≤◌, ◌⊎◌, inl, inr, Bool, true, false, ◌&&◌, ◌||◌, T, List, [], ◌∷◌, rules}
+use Rattle.std.proofs.Common.{map, take, get_or, Ordering, Less, Equal, Greater, is_lt, refl, sym, ap, subst, arith}
 use Rattle.std.specs.Prelude.{ℤ, pos, ◌+ℤ◌, ◌-ℤ◌, ◌<ℤ◌, ◌==◌, nat_lt}
-use Rattle.std.specs.Ordering.{ordering_then}
-use Rattle.std.specs.Cmp.{nat_cmp_total, tied_itself}
 use Rattle.std.specs.List.{list_all}
 use Rattle.std.proofs.lemmas.Int.{ints}
 use Rattle.std.proofs.lemmas.Option.{slice_get-get_or}
@@ -21,6 +19,7 @@ use Rattle.counted.specs.Sums.{weight_of, total, next_sid}
 use Rattle.delta.specs.Positions.{deletes_below, is_passed, keys_ascend, deletes_ascend, IsGapAt}
 use Rattle.delta.proofs.RidLemmas.{Leads, Follows, IsGap}
 use Rattle.delta.proofs.CountedLemmas.{ordered_from_lawful, total-is, some_get, some_within, true_false}
+use Rattle.std.proofs.lemmas.Grind.{common_steps}
 
 -- ---- what is passed, by numbers
 
@@ -35,20 +34,6 @@ above_stops next row b h = grind (arith, nat_tests)
 
 level_stops : (next row : ℕ) (b : Bool) → next ≡ row → b ≡ false → (nat_lt next row || ((next == row) && b)) ≡ false
 level_stops next row b h e = grind (arith, nat_tests)
-
-passes_level : (next row : ℕ) (b : Bool) → row ≤ next → (nat_lt next row || ((next == row) && b)) ≡ true → (next ≡ row) × (b ≡ true)
-passes_level next row true h e = (grind (arith, nat_tests), refl)
-passes_level next row false h e = absurd (never next row h e)
-  where
-    never : (x y : ℕ) → y ≤ x → (nat_lt x y || ((x == y) && false)) ≡ true → ⊥
-    never x y h e = grind (arith, nat_tests)
-
-stops_level : (next row : ℕ) (b : Bool) → next ≤ row → (nat_lt next row || ((next == row) && b)) ≡ false → (next ≡ row) × (b ≡ false)
-stops_level next row false h e = (grind (arith, nat_tests), refl)
-stops_level next row true h e = absurd (never next row h e)
-  where
-    never : (x y : ℕ) → x ≤ y → (nat_lt x y || ((x == y) && true)) ≡ false → ⊥
-    never x y h e = grind (arith, nat_tests)
 
 -- ---- the keys of deleted rows
 
@@ -83,26 +68,14 @@ module _ (key_cols : ℕ) (key : Key) (rid : ℕ) where
   step (Del k) cf cs se sf up next tie asc (inl lt) = inl (omega (arith, ints))
   step (Del k) (Ins row) cs se sf up next tie asc (inr h) = absurd (let b = h.1 in cc)
   step (Del k) (Mod col value) cs se sf up next tie asc (inr h) = absurd (let b = h.1 in cc)
-  step (Del k) (Del j) cs se sf up next tie asc (inr h) =
-      let e = h.0 in
-      elim (cases_lt (suc se) sf) [
-        | inl lt ↦ inl (omega (arith, ints))
-        | inr le ↦ inr (omega (arith, ints), below_trans k j key (ascend_next k j cs asc) h.1)
-      ]
+  step (Del k) (Del j) cs se sf up next tie asc (inr h) = grind (arith, common_steps, cases_lt, ints, below_trans, ascend_next)
   step (Mod col value) cf cs se sf up next tie asc (inl lt) = inl (omega (arith, ints))
   step (Mod col value) (Ins row) cs se sf up next tie asc (inr h) = absurd (let b = h.1 in cc)
   step (Mod col value) (Mod other v) cs se sf up next tie asc (inr h) = absurd (let b = h.1 in cc)
-  step (Mod col value) (Del j) cs se sf up next tie asc (inr h) =
-      let e = h.0 in
-      elim (cases_lt se sf) [
-        | inl lt ↦ inl (omega (arith, ints))
-        | inr le ↦ absurd (let below = tie (omega arith) in cc)
-      ]
+  step (Mod col value) (Del j) cs se sf up next tie asc (inr h) = grind (arith, common_steps, cases_lt, ints)
 
   tie_of : (e f : Entry) → entry_cmp key_cols e f ≡ Less → f.sid ≡ e.sid → change_cmp key_cols e.change f.change ≡ Less
-  tie_of e f below same =
-      sym (ap (λ r. ordering_then r (change_cmp key_cols e.change f.change)) (ap (nat_cmp e.sid) same ∙ tied_itself nat_cmp_total e.sid))
-      ∙ below
+  tie_of e f below same = search rules
 
   gap_tail : (e : Entry) (es : List Entry) (n : ℕ) (up : ℤ) → IsGap after (pos rid) up (e ∷ es) (suc n)
       → IsGap after (pos rid) (weight_of e.change +ℤ up) es n
@@ -174,21 +147,11 @@ module _ (key_cols : ℕ) (key : Key) (rid : ℕ) where
 
   passed_leads : (c : Change) (s a d : ℕ) (up : ℤ) → up ≡ (pos a -ℤ pos d) → is_passed key (s + a) (rid + d) c ≡ true
       → ((pos s +ℤ up) <ℤ pos rid) ⊎ (((pos s +ℤ up) ≡ pos rid) × (deletes_below key c ≡ true))
-  passed_leads c s a d up is h =
-      elim (cases_lt (s + a) (rid + d)) [
-        | inl lt ↦ inl (omega (arith, ints))
-        | inr le ↦ let level = passes_level (s + a) (rid + d) (deletes_below key c) le h in inr
-            (let e = level.0 in omega (arith, ints), level.1)
-      ]
+  passed_leads c s a d up is h = search rules
 
   stops_follows : (c : Change) (s a d : ℕ) (up : ℤ) → up ≡ (pos a -ℤ pos d) → is_passed key (s + a) (rid + d) c ≡ false
       → (pos rid <ℤ (pos s +ℤ up)) ⊎ (((pos s +ℤ up) ≡ pos rid) × (deletes_below key c ≡ false))
-  stops_follows c s a d up is h =
-      elim (cases_lt (rid + d) (s + a)) [
-        | inl lt ↦ inl (omega (arith, ints))
-        | inr le ↦ let level = stops_level (s + a) (rid + d) (deletes_below key c) le h in inr
-            (let e = level.0 in omega (arith, ints), level.1)
-      ]
+  stops_follows c s a d up is h = search rules
 
   above_all : (es : List Entry) → (total es +ℤ pos 0) ≡ (pos (insert_count es) -ℤ pos (delete_count es))
   above_all es = let sum = total-is es in omega (arith, ints)

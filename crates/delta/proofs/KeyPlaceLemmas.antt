@@ -1,15 +1,14 @@
 -- The place of a key among canonical entries, and its position in the image.
-use Rattle.std.proofs.Common.{◌≡◌, ℕ, ◌+◌, ◌<◌, ◌≤◌, Bool, true, false, cond, not, T, List, [], ◌∷◌, ◌++◌, map, filter, take, drop, Ordering, Less, Equal, Greater, is_lt, is_gt, nat_cmp, refl, sym, ap, ◌∙◌, subst, arith, take-append-drop}
+use Rattle.std.proofs.Common.{◌≡◌, ℕ, ◌+◌, ◌<◌, ◌≤◌, Bool, true, false, not, T, List, [], ◌∷◌, ◌++◌, map, filter, take, drop, Ordering, Less, Equal, Greater, is_lt, is_gt, nat_cmp, refl, sym, ap, ◌∙◌, arith, take-append-drop, rules}
 use Rattle.std.specs.Bool.{passes}
 use Rattle.std.specs.Ordering.{ordering_then, eq_by_cmp}
-use Rattle.std.specs.Cmp.{ranked}
 use Rattle.std.specs.List.{list_all}
 use Rattle.values.specs.Orders.{key_cmp, key_cmp_total, key_cmp-IsAntisymmetric}
 use Rattle.values.specs.Shape.{Columns, key_of}
 use Rattle.values.specs.declared.row.Row.{Row}
 use Rattle.values.specs.declared.row.Key.{Key}
 use Rattle.model.specs.declared.entry.Entry.{Entry}
-use Rattle.model.specs.declared.entry.Change.TheVariants.{Ins, Del, Mod}
+use Rattle.model.specs.declared.entry.Change.TheVariants.{Ins, Mod}
 use Rattle.model.specs.declared.effect.Effect.{Effect}
 use Rattle.model.specs.declared.effect.Effect.TheVariants as effect
 use Rattle.model.specs.Maps.{is_sorted}
@@ -22,6 +21,7 @@ use Rattle.delta.specs.Search.{insert_cmp, stands_before, IsSplit}
 use Rattle.delta.proofs.CountLemmas.{insert_count-append, delete_count-append}
 use Rattle.delta.proofs.ChangesLemmas.{filter_all, filter_none}
 use Rattle.std.proofs.lemmas.List.Elements.{filter-append}
+use Rattle.std.proofs.lemmas.Grind.{common_steps}
 
 -- ---- how many inserts and deletes effects are
 
@@ -57,23 +57,11 @@ module _ (key : Key) (t : Table) where
 
   pub inserts_below : (x : Effects) → insert_count (canonical_entries t (low x)) ≡ sum_below inserts_of key x
   inserts_below [] = refl
-  inserts_below (e ∷ x) =
-      elim (is_below e.0 key) as (λ b. insert_count (canonical_entries t (cond b (e ∷ low x) (low x)))
-      ≡ cond b (inserts_of e.1) 0 + sum_below inserts_of key x) [
-        | true ↦ insert_count-append (entries_of (rank e.0 t) e.0 e.1) (canonical_entries t (low x))
-            ∙ (λ i. inserts_of_effect (rank e.0 t) e.0 e.1 i + inserts_below x i)
-        | false ↦ inserts_below x ∙ none_more (sum_below inserts_of key x)
-      ]
+  inserts_below (e ∷ x) = grind (arith, common_steps, inserts_below x, is_below, inserts_of, sum_below, insert_count-append, inserts_of_effect, none_more)
 
   pub deletes_below : (x : Effects) → delete_count (canonical_entries t (low x)) ≡ sum_below deletes_of key x
   deletes_below [] = refl
-  deletes_below (e ∷ x) =
-      elim (is_below e.0 key) as (λ b. delete_count (canonical_entries t (cond b (e ∷ low x) (low x)))
-      ≡ cond b (deletes_of e.1) 0 + sum_below deletes_of key x) [
-        | true ↦ delete_count-append (entries_of (rank e.0 t) e.0 e.1) (canonical_entries t (low x))
-            ∙ (λ i. deletes_of_effect (rank e.0 t) e.0 e.1 i + deletes_below x i)
-        | false ↦ deletes_below x ∙ none_more (sum_below deletes_of key x)
-      ]
+  deletes_below (e ∷ x) = grind (arith, common_steps, deletes_below x, is_below, deletes_of, sum_below, delete_count-append, deletes_of_effect, none_more)
 
   module _ (key_cols : ℕ) where
     -- whether an entry stands before an insert of the key
@@ -81,28 +69,13 @@ module _ (key : Key) (t : Table) where
     test = stands_before (insert_cmp key_cols key) (rank key t)
 
     gt_of : (n m : ℕ) (o : Ordering) → m < n → T (is_gt (ordering_then (nat_cmp n m) o))
-    gt_of n m o lt =
-        elim (nat_cmp n m) as (λ r. nat_cmp n m ≡ r → T (is_gt (ordering_then r o))) [
-          | Less ↦ λ q. let l : n < m = ranked n m Less (sym q) in absurd (omega arith)
-          | Equal ↦ λ q. let e : n ≡ m = ranked n m Equal (sym q) in absurd (omega arith)
-          | Greater ↦ λ q. tt
-        ] refl
+    gt_of n m o lt = search rules
 
     gt_level : (n m : ℕ) (o : Ordering) → m ≤ n → o ≡ Greater → T (is_gt (ordering_then (nat_cmp n m) o))
-    gt_level n m o le is =
-        elim (nat_cmp n m) as (λ r. nat_cmp n m ≡ r → T (is_gt (ordering_then r o))) [
-          | Less ↦ λ q. let l : n < m = ranked n m Less (sym q) in absurd (omega arith)
-          | Equal ↦ λ q. subst (λ p. T (is_gt p)) (sym is) tt
-          | Greater ↦ λ q. tt
-        ] refl
+    gt_level n m o le is = search rules
 
     not_gt : (n m : ℕ) (o : Ordering) → n ≤ m → T (not (is_gt o)) → T (not (is_gt (ordering_then (nat_cmp n m) o)))
-    not_gt n m o le h =
-        elim (nat_cmp n m) as (λ r. nat_cmp n m ≡ r → T (not (is_gt (ordering_then r o)))) [
-          | Less ↦ λ q. tt
-          | Equal ↦ λ q. h
-          | Greater ↦ λ q. let g : m < n = ranked n m Greater (sym q) in absurd (omega arith)
-        ] refl
+    not_gt n m o le h = search rules
 
     equal : (r : Ordering) → T (elim r [ Less ↦ false | Equal ↦ true | Greater ↦ false ]) → r ≡ Equal
     equal Less h = absurd h
@@ -127,12 +100,9 @@ module _ (key : Key) (t : Table) where
     low_effect : (k : Key) (f : Effect) → key_cmp k key ≡ Less → T (is_keyed_effect key_cols k f) → T (fits (row_at t k) f)
         → T (list_all test (entries_of (rank k t) k f))
     low_effect k (effect.Ins row) below own fit = both (test (entry_at (rank k t) (Ins row))) _ (low_insert k row below own) tt
-    low_effect k effect.Del below own fit =
-        both (test (entry_at (rank k t) (Del k))) _ (gt_of (rank key t) (rank k t) Less (rank-lt k key t below fit)) tt
+    low_effect k effect.Del below own fit = grind (arith, common_steps, both, gt_of, rank-lt)
     low_effect k (effect.Mod cells) below own fit = low_cells k cells (rank-lt k key t below fit)
-    low_effect k (effect.Rep row) below own fit =
-        both (test (entry_at (rank k t) (Ins row))) _ (low_insert k row below own)
-        (both (test (entry_at (rank k t) (Del k))) _ (gt_of (rank key t) (rank k t) Less (rank-lt k key t below fit)) tt)
+    low_effect k (effect.Rep row) below own fit = grind (arith, common_steps, both, low_insert, gt_of, rank-lt)
 
     -- of another key none does
     pub above_le : (k : Key) → is_lt (key_cmp k key) ≡ false → rank key t ≤ rank k t
@@ -153,26 +123,19 @@ module _ (key : Key) (t : Table) where
 
     high_insert : (k : Key) (row : Row) → is_lt (key_cmp k key) ≡ false → T (eq_by_cmp key_cmp k (key_of key_cols row))
         → T (not (test (entry_at (rank k t) (Ins row))))
-    high_insert k row above own =
-        not_gt (rank key t) (rank k t) (key_cmp key (key_of key_cols row)) (above_le k above)
-        (subst (λ j. T (not (is_gt (key_cmp key j)))) (sym (own_key k row own)) (above_not k above))
+    high_insert k row above own = grind (arith, common_steps, not_gt, above_le, is_gt, own_key, above_not)
 
     high_cells : (k : Key) (cells : Cells) → rank key t ≤ rank k t
         → T (list_all (λ e. not (test e)) (map (λ c. entry_at (rank k t) (Mod c.0 c.1)) cells))
     high_cells k [] le = tt
-    high_cells k (c ∷ cells) le =
-        both (not (test (entry_at (rank k t) (Mod c.0 c.1)))) _ (not_gt (rank key t) (rank k t) Less le tt)
-        (high_cells k cells le)
+    high_cells k (c ∷ cells) le = grind (arith, common_steps, high_cells k cells le, both, not_gt)
 
     high_effect : (k : Key) (f : Effect) → is_lt (key_cmp k key) ≡ false → T (is_keyed_effect key_cols k f)
         → T (list_all (λ e. not (test e)) (entries_of (rank k t) k f))
     high_effect k (effect.Ins row) above own = both (not (test (entry_at (rank k t) (Ins row)))) _ (high_insert k row above own) tt
-    high_effect k effect.Del above own =
-        both (not (test (entry_at (rank k t) (Del k)))) _ (not_gt (rank key t) (rank k t) Less (above_le k above) tt) tt
+    high_effect k effect.Del above own = grind (arith, common_steps, both, not_gt, above_le)
     high_effect k (effect.Mod cells) above own = high_cells k cells (above_le k above)
-    high_effect k (effect.Rep row) above own =
-        both (not (test (entry_at (rank k t) (Ins row)))) _ (high_insert k row above own)
-        (both (not (test (entry_at (rank k t) (Del k)))) _ (not_gt (rank key t) (rank k t) Less (above_le k above) tt) tt)
+    high_effect k (effect.Rep row) above own = grind (arith, common_steps, both, high_insert, not_gt, above_le)
 
     all_append : (p : Entry → Bool) (xs ys : List Entry) → T (list_all p xs) → T (list_all p ys) → T (list_all p (xs ++ ys))
     all_append p [] ys h k = k
@@ -187,29 +150,13 @@ module _ (key : Key) (t : Table) where
     pub low_all : (x : Effects) → T (list_all (λ e. is_keyed_effect key_cols e.0 e.1) x) → T (all_fit t x)
         → T (list_all test (canonical_entries t (low x)))
     low_all [] own fit = tt
-    low_all (e ∷ x) own fit =
-        let rest = low_all x (second (is_keyed_effect key_cols e.0 e.1) _ own) (second (fits (row_at t e.0) e.1) _ fit) in
-        elim (is_lt (key_cmp e.0 key)) as
-        (λ b. is_lt (key_cmp e.0 key) ≡ b → T (list_all test (canonical_entries t (cond b (e ∷ low x) (low x))))) [
-          | true ↦ λ q. all_append test (entries_of (rank e.0 t) e.0 e.1) (canonical_entries t (low x))
-              (low_effect e.0 e.1 (less_of (key_cmp e.0 key) q) (first (is_keyed_effect key_cols e.0 e.1) _ own)
-              (first (fits (row_at t e.0) e.1) _ fit))
-              rest
-          | false ↦ λ q. rest
-        ] refl
+    low_all (e ∷ x) own fit = grind (arith, common_steps, low_all x (second (is_keyed_effect key_cols e.0 e.1) _ own) (second (fits (row_at t e.0) e.1) _ fit), second, all_append, low_effect, less_of, first)
 
     -- and those of the other keys behind it
     pub high_all : (x : Effects) → T (list_all (λ e. is_keyed_effect key_cols e.0 e.1) x)
         → T (list_all (λ e. not (test e)) (canonical_entries t (high x)))
     high_all [] own = tt
-    high_all (e ∷ x) own =
-        let rest = high_all x (second (is_keyed_effect key_cols e.0 e.1) _ own) in
-        elim (is_lt (key_cmp e.0 key)) as (λ b. is_lt (key_cmp e.0 key) ≡ b
-        → T (list_all (λ y. not (test y)) (canonical_entries t (cond (not b) (e ∷ high x) (high x))))) [
-          | true ↦ λ q. rest
-          | false ↦ λ q. all_append (λ y. not (test y)) (entries_of (rank e.0 t) e.0 e.1) (canonical_entries t (high x))
-              (high_effect e.0 e.1 q (first (is_keyed_effect key_cols e.0 e.1) _ own)) rest
-        ] refl
+    high_all (e ∷ x) own = grind (arith, common_steps, high_all x (second (is_keyed_effect key_cols e.0 e.1) _ own), second, all_append, high_effect, first)
 
 -- the first entries of a split are those that pass
 pub split_is : (p : Entry → Bool) (es : List Entry) (n : ℕ) → IsSplit p es n → filter p es ≡ take n es
@@ -228,9 +175,7 @@ module _ (schema : Columns) (t : Table) (x : Effects) (h : AreOver schema t x) (
 
   -- the effects ascend by key
   pub sorted_effects : T (is_sorted key_cmp x)
-  sorted_effects =
-      first (is_sorted key_cmp x) (list_all (λ e. is_keyed_effect schema.key_cols e.0 e.1) x)
-      (passes (are_keyed_effects schema.key_cols x) h.effects_are.keyed)
+  sorted_effects = search rules
 
   -- so do the rows
   pub sorted_table : T (is_sorted key_cmp t)
@@ -263,13 +208,4 @@ module _ (schema : Columns) (t : Table) (x : Effects) (h : AreOver schema t x) (
   -- so its position is the rank in the image
   pub rank_is : (n : ℕ) → IsSplit (stands_before (insert_cmp schema.key_cols key) (rank key t)) entries n
       → rid_of_insert (take n entries) (rank key t) ≡ rank key (table_with t x)
-  rank_is n split =
-      let before = before_key n split in
-      omega (
-        arith,
-        ap insert_count before,
-        ap delete_count before,
-        inserts_below key t x,
-        deletes_below key t x,
-        rank-table_with key t x sorted_table sorted_effects fitting_effects,
-      )
+  rank_is n split = grind (arith, common_steps, before_key, inserts_below, deletes_below, rank-table_with, sorted_table, sorted_effects, fitting_effects)

@@ -1,10 +1,10 @@
 -- A change keeps the list lawful.
-use Rattle.std.proofs.Common.{is_lt, take-append-drop, ◌≡◌, ℕ, suc, ◌+◌, ◌<◌, ◌≤◌, ◌^◌, not, ◌&&◌, T, is_some, List, ◌∷◌, length, take, drop, set, get_or, remove, sym, ap, subst, arith, length-append, length-take, length-drop}
+use Rattle.std.proofs.Common.{is_lt, take-append-drop, ◌≡◌, ℕ, suc, ◌+◌, ◌<◌, ◌≤◌, ◌^◌, not, ◌&&◌, T, is_some, List, ◌∷◌, length, take, drop, set, get_or, remove, sym, subst, arith, length-append, length-take, length-drop, rules}
 use Rattle.std.specs.Prelude.{◌==◌, false}
 use Rattle.std.proofs.lemmas.Float.{T_from_true}
 use Rattle.std.proofs.lemmas.List.{length-set, drop-drop}
 use Rattle.std.specs.List.{list_all, All}
-use Rattle.std.proofs.lemmas.List.Elements.{All-append, All-cons, All-take, All-drop, All-set}
+use Rattle.std.proofs.lemmas.List.Elements.{All-append, All-cons, All-take, All-drop}
 use Rattle.values.specs.Shape.{key_of}
 use Rattle.values.specs.declared.row.Row.{Row}
 use Rattle.values.specs.declared.row.Key.{Key}
@@ -21,6 +21,7 @@ use Rattle.delta.proofs.SearchLemmas.{is_true}
 use Rattle.delta.proofs.ChangesLemmas.{all_drop, not_inserted, not_deleted, insert_cmp-same, base_cmp-same, modify_cmp-same, base-le-past, put_ins-split, put_del-split, put_mod-split, HasInsert, nothing}
 use Rattle.delta.proofs.OrderLemmas.{ordered_right, ordered-with_run, ordered-remove, ordered-changed, all_stand_after, insert_before, delete_before, modify_before}
 use Rattle.delta.proofs.Words.{with_run}
+use Rattle.std.proofs.lemmas.Grind.{common_steps}
 
 module _ (key_cols : ℕ) where
   abbrev IsPlaced : List Entry → Type 0
@@ -34,11 +35,7 @@ module _ (key_cols : ℕ) where
   -- a list that a run with an entry gives
   lawful_run : (es new : List Entry) (n m : ℕ) (e : Entry) → new ≡ with_run es n m e → n ≤ m → IsLawful key_cols es
       → e.sid < 2 ^ 32 → length new ≤ 2 ^ 40 → T (are_ordered key_cols (with_run es n m e)) → IsLawful key_cols new
-  lawful_run es new n m e is le h lt room ordered = record {
-    ordered = is_true _ (subst (λ ys. T (are_ordered key_cols ys)) (sym is) ordered);
-    placed = subst IsPlaced (sym is) (placed-with_run es n m e lt h.placed);
-    counted = room;
-  }
+  lawful_run es new n m e is le h lt room ordered = grind (arith, common_steps, is_true, placed-with_run)
 
   ordered_drop : (es : List Entry) (n : ℕ) → T (are_ordered key_cols es) → T (are_ordered key_cols (drop n es))
   ordered_drop es n h =
@@ -105,15 +102,7 @@ module _ (key_cols : ℕ) where
   pub IsLawful-set : (col : ℕ) (value : Value) (es : List Entry) (n : ℕ) → IsLawful key_cols es → n < length es → key_cols ≤ col
       → IsLawful key_cols
       (set es n (entry_at (get_or es n nothing).sid (change_with_cell col value (get_or es n nothing).change)))
-  IsLawful-set col value es n h short outside =
-      let y = get_or es n nothing in
-      let e = entry_at y.sid (change_with_cell col value y.change) in
-      let count : length (set es n e) ≤ 2 ^ 40 = omega (arith, length-set es n e, h.counted) in
-      record {
-        ordered = is_true _ (ordered-changed key_cols col value outside es n short (T_from_true _ h.ordered));
-        placed = All-set (λ x. x.sid < 2 ^ 32) es n e (h.placed n nothing short) h.placed;
-        counted = count;
-      }
+  IsLawful-set col value es n h short outside = grind (arith, common_steps, nothing, length-set, is_true, ordered-changed)
 
   pub IsLawful-set_ins : (sid : ℕ) (key : Key) (col : ℕ) (value : Value) (es : List Entry) (n : ℕ) → IsLawful key_cols es
       → HasInsert key_cols sid key es n → key_cols ≤ col → IsLawful key_cols (set_ins key_cols sid key col value es)
@@ -127,9 +116,4 @@ pub record IsEdited (k : ℕ) (new : List Entry) (t : Tree) (xs : List Entry) : 
 
 pub edited : (k : ℕ) (es new xs : List Entry) (t : Tree) → ◌≡◌ {A = Tree} (record { key_cols = k; entries = es }) t → new ≡ xs
     → IsLawful t.key_cols xs → IsEdited k new t xs
-edited k es new xs t view same lawful =
-    let width : k ≡ t.key_cols = ap (λ (w : Tree). w.key_cols) view in
-    record {
-      shows = λ i. record { key_cols = width i; entries = same i };
-      lawful = subst (λ j. IsLawful j new) (sym width) (subst (IsLawful t.key_cols) (sym same) lawful);
-    }
+edited k es new xs t view same lawful = search rules

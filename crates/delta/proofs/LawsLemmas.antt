@@ -1,18 +1,15 @@
 -- The laws of lists of entries, in the words that contracts cite.
-use Rattle.std.proofs.Common.{◌≡◌, ◌≢◌, ℕ, ◌<◌, ◌≤◌, Bool, true, false, cond, not, ◌&&◌, ◌||◌, T, Option, Some, None, is_some, List, [], ◌∷◌, ◌++◌, map, filter, length, Less, Equal, Greater, is_lt, is_eq, nat_cmp, refl, sym, ap, ◌∙◌, subst, arith}
-use Rattle.std.specs.Prelude.{◌==◌, nat_le, IsSomeAnd, is_none, slice_get}
+use Rattle.std.proofs.Common.{◌≡◌, ◌≢◌, ℕ, ◌<◌, ◌≤◌, Bool, true, false, cond, not, ◌&&◌, ◌||◌, T, Option, Some, None, is_some, List, [], ◌∷◌, ◌++◌, map, length, Less, Equal, Greater, is_lt, is_eq, nat_cmp, refl, sym, ap, ◌∙◌, subst, arith, rules}
+use Rattle.std.specs.Prelude.{◌==◌, nat_le, IsSomeAnd}
 use Rattle.std.specs.Bool.{passes}
-use Rattle.std.specs.Ordering.{eq_by_cmp, ordering_then}
-use Rattle.std.specs.Cmp.{tied_itself, nat_cmp_total}
+use Rattle.std.specs.Ordering.{eq_by_cmp}
 use Rattle.std.specs.List.{list_all, list_any}
 use Rattle.std.specs.FinMap.Entries.{below_all}
 use Rattle.std.proofs.lemmas.Bool.{eqb-true}
 use Rattle.std.proofs.lemmas.Bool.Decides.{nat_tests}
 use Rattle.std.proofs.lemmas.Option.{slice_get_within}
 use Rattle.values.specs.Orders.{key_cmp, key_cmp_total, key_cmp-IsAntisymmetric}
-use Rattle.values.specs.Shape.{Columns, key_of, fits_schema, cell_fits_schema, cell_fault_at, values_fault}
-use Rattle.values.specs.declared.value.ColumnType.{ColumnType}
-use Rattle.values.specs.declared.fault.ShapeFault.TheVariants.{WrongCount}
+use Rattle.values.specs.Shape.{Columns, key_of, fits_schema, cell_fits_schema}
 use Rattle.values.specs.declared.row.Row.{Row}
 use Rattle.values.specs.declared.row.Key.{Key}
 use Rattle.values.specs.declared.value.Value.{Value}
@@ -25,7 +22,7 @@ use Rattle.model.specs.declared.effect.Effect.{Effect}
 use Rattle.model.specs.declared.effect.Effect.TheVariants as effect
 use Rattle.model.specs.Maps.{find, is_sorted}
 use Rattle.model.specs.Table.{Table, is_keyed_table, table_of, row_at, rank}
-use Rattle.model.specs.Effects.{Cells, Effects, is_keyed_effect, are_keyed_effects, fits, all_fit, row_after, table_with, effect_fits_schema, AreOver}
+use Rattle.model.specs.Effects.{Cells, Effects, is_keyed_effect, are_keyed_effects, fits, all_fit, row_after, effect_fits_schema, AreOver}
 use Rattle.model.specs.Writes.{write_fits_schema, key_of_write, effect_of_write, reply_to, is_done}
 use Rattle.model.specs.Entries.{entry_at, is_delete, is_modify, entries_of, canonical_entries, change_cmp, entry_cmp, are_ordered}
 use Rattle.model.specs.Merging.{changes_at, inserted_rows}
@@ -36,6 +33,7 @@ use Rattle.delta.specs.Laws.{InsertsAscendAtASid, row_inserted, deletes_row, Can
 use Rattle.delta.proofs.SearchLemmas.{is_true}
 use Rattle.delta.proofs.ChangesLemmas.{all_skipped, none_inserted}
 use Rattle.delta.proofs.LookupLemmas.{no_deletes, skip_deletes}
+use Rattle.std.proofs.lemmas.Grind.{common_steps}
 
 -- ---- the changes at one SID
 
@@ -52,40 +50,18 @@ module _ (key_cols : ℕ) where
   -- an entry that follows at the same SID follows by its change
   level : (x y : Entry) (sid : ℕ) → x.sid ≡ sid → y.sid ≡ sid → T (is_lt (entry_cmp key_cols x y))
       → T (is_lt (change_cmp key_cols x.change y.change))
-  level x y sid p q h =
-      subst (λ r. T (is_lt (ordering_then r (change_cmp key_cols x.change y.change))))
-      ((λ i. nat_cmp (p i) (q i)) ∙ tied_itself nat_cmp_total sid) h
+  level x y sid p q h = search rules
 
   -- of the entries that follow one, those at its SID
   after_at : (sid : ℕ) (x : Entry) (es : List Entry) → x.sid ≡ sid → T (list_all (λ y. is_lt (entry_cmp key_cols x y)) es)
       → T (stand_after x.change (changes_at sid es))
   after_at sid x [] is h = tt
-  after_at sid x (y ∷ es) is h =
-      let rest = after_at sid x es is (second (is_lt (entry_cmp key_cols x y)) (list_all (λ z. is_lt (entry_cmp key_cols x z)) es) h) in
-      elim (y.sid == sid) as (λ b. (y.sid == sid) ≡ b → T (stand_after x.change
-      (map (λ e. e.change) (cond b (y ∷ filter (λ e. e.sid == sid) es) (filter (λ e. e.sid == sid) es))))) [
-        | true ↦ λ same.
-            both (is_lt (change_cmp key_cols x.change y.change)) _
-            (level x y sid is (eqb-true y.sid sid same)
-            (first (is_lt (entry_cmp key_cols x y)) (list_all (λ z. is_lt (entry_cmp key_cols x z)) es) h))
-            rest
-        | false ↦ λ same. rest
-      ] refl
+  after_at sid x (y ∷ es) is h = grind (arith, common_steps, after_at sid x es is (second (is_lt (entry_cmp key_cols x y)) (list_all (λ z. is_lt (entry_cmp key_cols x z)) es) h), second, both, level, eqb-true, first)
 
   -- entries in order have their changes in order at each SID
   in_order-at : (sid : ℕ) (es : List Entry) → T (are_ordered key_cols es) → T (in_order (changes_at sid es))
   in_order-at sid [] h = tt
-  in_order-at sid (x ∷ es) h =
-      let rest = in_order-at sid es (second (list_all (λ y. is_lt (entry_cmp key_cols x y)) es) (are_ordered key_cols es) h) in
-      elim (x.sid == sid) as (λ b. (x.sid == sid) ≡ b
-      → T (in_order (map (λ e. e.change) (cond b (x ∷ filter (λ e. e.sid == sid) es) (filter (λ e. e.sid == sid) es))))) [
-        | true ↦ λ same.
-            both (stand_after x.change (changes_at sid es)) (in_order (changes_at sid es))
-            (after_at sid x es (eqb-true x.sid sid same)
-            (first (list_all (λ y. is_lt (entry_cmp key_cols x y)) es) (are_ordered key_cols es) h))
-            rest
-        | false ↦ λ same. rest
-      ] refl
+  in_order-at sid (x ∷ es) h = grind (arith, common_steps, in_order-at sid es (second (list_all (λ y. is_lt (entry_cmp key_cols x y)) es) (are_ordered key_cols es) h), second, both, after_at, eqb-true, first)
 
   -- the rows that are inserted after a row have greater keys
   rows_above : (row : Row) (cs : List Change) → T (stand_after (Ins row) cs)
@@ -100,10 +76,7 @@ module _ (key_cols : ℕ) where
   -- so the rows that are inserted ascend
   rows_sorted : (cs : List Change) → T (in_order cs) → T (is_sorted key_cmp (table_of key_cols (inserted_rows cs)))
   rows_sorted [] h = tt
-  rows_sorted (Ins row ∷ cs) h =
-      both (below_all key_cmp (key_of key_cols row) (table_of key_cols (inserted_rows cs))) _
-      (rows_above row cs (first (stand_after (Ins row) cs) (in_order cs) h))
-      (rows_sorted cs (second (stand_after (Ins row) cs) (in_order cs) h))
+  rows_sorted (Ins row ∷ cs) h = grind (arith, common_steps, rows_sorted cs (second (stand_after (Ins row) cs) (in_order cs) h), both, rows_above, first, second)
   rows_sorted (Del key ∷ cs) h = rows_sorted cs (second (stand_after (Del key) cs) (in_order cs) h)
   rows_sorted (Mod col value ∷ cs) h = rows_sorted cs (second (stand_after (Mod col value) cs) (in_order cs) h)
 
@@ -196,20 +169,13 @@ module _ (key_cols : ℕ) (t : Table) (k : Key) where
     none_of j (effect.Ins row) ne he hf = both (not (p (entry_at (rank j t) (Ins row)))) true (apart j (Ins row) ne he) tt
     none_of j effect.Del ne he hf = both (not (p (entry_at (rank j t) (Del j)))) true (apart j (Del j) ne hf) tt
     none_of j (effect.Mod cells) ne he hf = none_of_cells j cells ne hf
-    none_of j (effect.Rep row) ne he hf =
-        both (not (p (entry_at (rank j t) (Ins row)))) _ (apart j (Ins row) ne he)
-        (both (not (p (entry_at (rank j t) (Del j)))) true (apart j (Del j) ne hf) tt)
+    none_of j (effect.Rep row) ne he hf = search rules
 
     -- none of greater keys
     none_above : (x : Effects) → T (below_all key_cmp k x) → T (list_all (λ e. is_keyed_effect key_cols e.0 e.1) x)
         → T (all_fit t x) → T (none (canonical_entries t x))
     none_above [] h he hf = tt
-    none_above (e ∷ x) h he hf =
-        none-append (entries_of (rank e.0 t) e.0 e.1) (canonical_entries t x)
-        (none_of e.0 e.1 (ap is_eq (less _ (first (is_lt (key_cmp k e.0)) (below_all key_cmp k x) h)))
-        (first (is_keyed_effect key_cols e.0 e.1) _ he) (first (fits (row_at t e.0) e.1) _ hf))
-        (none_above x (second (is_lt (key_cmp k e.0)) (below_all key_cmp k x) h) (second (is_keyed_effect key_cols e.0 e.1) _ he)
-        (second (fits (row_at t e.0) e.1) _ hf))
+    none_above (e ∷ x) h he hf = grind (arith, common_steps, none_above x (second (is_lt (key_cmp k e.0)) (below_all key_cmp k x) h) (second (is_keyed_effect key_cols e.0 e.1) _ he) (second (fits (row_at t e.0) e.1) _ hf), none-append, none_of, is_eq, less, first, second)
 
   -- what is found in the entries of all effects is found in those of the key's own
   module _ {A : Type 0} (look : List Entry → A) (found : Option Effect → A) (p : Entry → Bool)
@@ -265,18 +231,13 @@ module _ (key_cols : ℕ) (t : Table) (k : Key) where
 
   -- the insert of a row with the key is
   its_own : (row : Row) → T (eq_by_cmp key_cmp k (key_of key_cols row)) → its_insert (entry_at (rank k t) (Ins row)) ≡ true
-  its_own row h =
-      ap (λ b. b && eq_by_cmp key_cmp k (key_of key_cols row)) (same_number (rank k t))
-      ∙ is_true (eq_by_cmp key_cmp k (key_of key_cols row)) h
+  its_own row h = search rules
 
   -- so of the key's own entries the row of its insert is found
   own_insert : (f : Effect) (ys : List Entry) → T (is_keyed_effect key_cols k f) → T (list_all (λ e. not (its_insert e)) ys)
       → inserted_row key_cols (rank k t) k (entries_of (rank k t) k f ++ ys) ≡ row_inserted (Some f)
   own_insert (effect.Ins row) ys h none = ap (λ b. cond b (Some row) (inserted_row key_cols (rank k t) k ys)) (its_own row h)
-  own_insert effect.Del ys h none =
-      all_skipped key_cols (rank k t) k (entry_at (rank k t) (Del k) ∷ []) ys
-      (both (not ((rank k t == rank k t) && false)) true (and_none (rank k t == rank k t) false refl) tt)
-      ∙ none_inserted key_cols (rank k t) k ys none
+  own_insert effect.Del ys h none = grind (arith, common_steps, all_skipped, both, and_none, none_inserted)
   own_insert (effect.Mod cells) ys h none =
       all_skipped key_cols (rank k t) k (map (λ d. entry_at (rank k t) (Mod d.0 d.1)) cells) ys (no_cell_inserts cells)
       ∙ none_inserted key_cols (rank k t) k ys none
@@ -321,10 +282,7 @@ module _ (key_cols : ℕ) (t : Table) (k : Key) where
     own_delete (effect.Mod cells) ys h none =
         skip_deletes key_cols (rank k t) (map (λ d. entry_at (rank k t) (Mod d.0 d.1)) cells) ys (no_cell_deletes cells)
         ∙ no_deletes key_cols (rank k t) ys none
-    own_delete (effect.Rep row) ys h none =
-        skip_deletes key_cols (rank k t) (entry_at (rank k t) (Ins row) ∷ []) (entry_at (rank k t) (Del k) ∷ ys)
-        (no_delete_first row)
-        ∙ delete_here ys
+    own_delete (effect.Rep row) ys h none = search rules
 
 -- what a transaction finds of its own effects
 pub finds_effect : (schema : Columns) → CanonicalLookUps schema
@@ -347,22 +305,11 @@ finds_effect schema t x key over =
 
 -- a row that fits has as many cells as there are columns
 pub length-fits : (schema : Columns) (row : Row) → T (fits_schema schema row) → length row ≡ length schema.types
-length-fits schema row h =
-    elim (length row == length schema.types) as
-    (λ b. (length row == length schema.types) ≡ b → T (is_none (cond b (values_fault 0 schema.types row) (Some WrongCount)))
-    → length row ≡ length schema.types) [
-      | true ↦ λ same g. eqb-true (length row) (length schema.types) same
-      | false ↦ λ same g. absurd g
-    ] refl h
+length-fits schema row h = search rules
 
 -- and a cell that fits is in one of them
 cell_within : (schema : Columns) (col : ℕ) (value : Value) → T (cell_fits_schema schema col value) → col < length schema.types
-cell_within schema col value h = by (slice_get schema.types col) refl h
-  where
-    by : (o : Option ColumnType) → slice_get schema.types col ≡ o → T (is_none (cell_fault_at o schema.key_cols col value))
-        → col < length schema.types
-    by None is g = absurd g
-    by (Some type) is g = slice_get_within schema.types col type is
+cell_within schema col value h = grind (arith, common_steps, slice_get_within)
 
 -- so it is in the row
 in_row : (schema : Columns) (row : Row) (col : ℕ) (value : Value) → T (fits_schema schema row)
@@ -371,10 +318,7 @@ in_row schema row col value h g = let same = length-fits schema row h in let wit
 
 -- a column outside the key
 past_key : (n m : ℕ) → T (nat_le n m) → n ≤ m
-past_key n m h = let is = is_true (nat_le n m) h in decided n m is
-  where
-    decided : (n m : ℕ) → nat_le n m ≡ true → n ≤ m
-    decided n m is = grind (arith, nat_tests)
+past_key n m h = search rules
 
 -- what holds of the row that is found
 some_and : (o : Option Row) (row : Row) (P : Row → Type 0) → o ≡ Some row → P row → IsSomeAnd o P
@@ -412,18 +356,10 @@ module _ (schema : Columns) (t : Table) (x : Effects) (k : Key) where
         → T (fits (changed_by row_after old (row_at t k)) (effect.Mod ((col, value) ∷ [])))
         → MayEdit schema.key_cols sid (Set k col value) old entries
     may_set None h done = h.delete (is_true (is_some (row_at t k)) done)
-    may_set (Some (effect.Ins row)) h done = (
-      some_and (inserted_row schema.key_cols sid k entries) row (λ inserted. col < length inserted) h.insert
-          (in_row schema row col value h.shaped fitting),
-      outside,
-    )
+    may_set (Some (effect.Ins row)) h done = grind (arith, common_steps, some_and, in_row)
     may_set (Some effect.Del) h done = absurd done
     may_set (Some (effect.Mod cells)) h done = h.delete (is_true (is_some (row_at t k)) h.fit)
-    may_set (Some (effect.Rep row)) h done = (
-      some_and (inserted_row schema.key_cols sid k entries) row (λ inserted. col < length inserted) h.insert
-          (in_row schema row col value h.shaped fitting),
-      outside,
-    )
+    may_set (Some (effect.Rep row)) h done = grind (arith, common_steps, some_and, in_row)
 
 -- a key whose effect inserts a row can't be inserted again
 pub may_insert : (o : Option Row) (old : Option Effect) (there : Option Row) (row : Row) → o ≡ row_inserted old
@@ -464,11 +400,7 @@ module _ (schema : Columns) (limit : ℕ) (t : Table) (x : Effects) (over : AreO
   fits_now : (write : Write) → T (is_done (reply_to schema.key_cols limit t x write))
       → (let k = key_of_write schema.key_cols write in
       T (fits (changed_by row_after (find key_cmp k x) (row_at t k)) (effect_of_write write)))
-  fits_now write done =
-      let k = key_of_write schema.key_cols write in
-      subst (λ o. T (fits o (effect_of_write write)))
-      (row_at-table_with t x k (first (is_sorted key_cmp x) (list_all (λ e. is_keyed_effect schema.key_cols e.0 e.1) x) keyed))
-      (done_fits schema.key_cols limit t x table_keyed keyed fit_all (row_at (table_with t x) k) (length (table_with t x)) write done)
+  fits_now write done = grind (arith, common_steps, row_at-table_with, first, keyed, done_fits, table_keyed, fit_all)
 
   -- so each write may make its edit
   may_edit : (write : Write) → T (write_fits_schema schema write) → T (is_done (reply_to schema.key_cols limit t x write))

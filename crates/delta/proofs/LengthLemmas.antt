@@ -1,28 +1,20 @@
 -- What callers need of a list after a change: how long it is at most.
-use Rattle.std.proofs.Common.{ℕ, ◌+◌, ◌≤◌, not, ◌&&◌, List, [], ◌∷◌, filter, length, Less, Equal, Greater, arith}
-use Rattle.std.specs.Prelude.{◌==◌}
-use Rattle.std.specs.Ordering.{match_ordering}
+use Rattle.std.proofs.Common.{ℕ, ◌+◌, ◌≤◌, List, [], ◌∷◌, length, arith}
 use Rattle.std.proofs.lemmas.List.Sums.{length-filter, count_by-le-length}
 use Rattle.values.specs.declared.row.Row.{Row}
 use Rattle.values.specs.declared.row.Key.{Key}
 use Rattle.values.specs.declared.value.Value.{Value}
 use Rattle.model.specs.declared.entry.Entry.{Entry}
-use Rattle.model.specs.declared.entry.Change.TheVariants.{Ins, Del, Mod}
-use Rattle.model.specs.Entries.{entry_at, is_modify, entry_cmp}
+use Rattle.model.specs.declared.entry.Change.TheVariants.{Ins, Mod}
+use Rattle.model.specs.Entries.{entry_at}
 use Rattle.model.specs.Edits.{put_entry, put_ins, put_del, put_mod}
+use Rattle.std.proofs.lemmas.Grind.{common_steps}
 
 module _ (key_cols : ℕ) where
   -- an entry that is put in makes the list longer by one at most
   pub length-put_entry : (e : Entry) (es : List Entry) → length (put_entry key_cols e es) ≤ length es + 1
   length-put_entry e [] = omega arith
-  length-put_entry e (x ∷ es) =
-      let rest = length-put_entry e es in
-      elim (entry_cmp key_cols e x) as
-      (λ r. length (match_ordering r (e ∷ x ∷ es) (e ∷ es) (x ∷ put_entry key_cols e es)) ≤ length (x ∷ es) + 1) [
-        | Less ↦ omega arith
-        | Equal ↦ omega arith
-        | Greater ↦ omega (arith, rest)
-      ]
+  length-put_entry e (x ∷ es) = grind (arith, common_steps, length-put_entry e es)
 
   -- so does an insert
   pub length-put_ins : (sid : ℕ) (row : Row) (es : List Entry) → length (put_ins key_cols sid row es) ≤ length es + 1
@@ -34,6 +26,4 @@ module _ (key_cols : ℕ) where
 
   -- and a delete
   pub length-put_del : (sid : ℕ) (key : Key) (es : List Entry) → length (put_del key_cols sid key es) ≤ length es + 1
-  length-put_del sid key es =
-      let test = λ (e : Entry). not ((e.sid == sid) && is_modify e.change) in
-      omega (arith, length-put_entry (entry_at sid (Del key)) (filter test es), length-filter test es, count_by-le-length test es)
+  length-put_del sid key es = omega (arith, length-put_entry, length-filter, count_by-le-length)

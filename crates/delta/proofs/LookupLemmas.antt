@@ -1,22 +1,16 @@
 -- What a search finds at a SID is all that stands there.
-use Rattle.std.proofs.Common.{◌≡◌, ℕ, ◌<◌, ◌≤◌, Bool, true, false, cond, not, ◌&&◌, ◌||◌, T, None, List, [], ◌∷◌, ◌++◌, length, take, drop, nat_cmp, Ordering, Less, Equal, Greater, is_lt, is_gt, refl, sym, ap, ◌∙◌, subst, arith, get_or, drop-cons, take-append-drop}
-use Rattle.std.specs.Prelude.{◌==◌}
-use Rattle.std.specs.Ordering.{ordering_then}
-use Rattle.std.specs.Cmp.{ranked, nat_cmp_total, tied_itself}
-use Rattle.delta.proofs.SearchLemmas.{nat_cmp-greater}
+use Rattle.std.proofs.Common.{◌≡◌, ℕ, ◌<◌, ◌≤◌, Bool, true, false, cond, not, ◌||◌, T, None, List, [], ◌∷◌, ◌++◌, length, take, drop, is_lt, refl, sym, ap, ◌∙◌, arith, get_or, drop-cons, take-append-drop, rules}
 use Rattle.std.specs.List.{list_all}
-use Rattle.std.proofs.lemmas.Bool.{eqb-true}
 use Rattle.std.proofs.lemmas.List.{drop_all}
 use Rattle.values.specs.declared.row.Key.{Key}
 use Rattle.model.specs.declared.entry.Entry.{Entry}
-use Rattle.model.specs.declared.entry.Change.{Change}
-use Rattle.model.specs.declared.entry.Change.TheVariants.{Ins, Del, Mod}
-use Rattle.model.specs.Entries.{is_delete, change_cmp, entry_cmp, are_ordered}
+use Rattle.model.specs.Entries.{entry_cmp, are_ordered}
 use Rattle.model.proofs.CallerLemmas.{first, second}
 use Rattle.delta.specs.Search.{insert_cmp, base_cmp, stands_before, IsSplit}
 use Rattle.delta.specs.Lookups.{has_delete, inserted_row, is_insert_at, row_of}
 use Rattle.delta.specs.Changes.{row_at, is_delete_at}
 use Rattle.delta.proofs.ChangesLemmas.{all_from, not_match, none_after, all_skipped, none_inserted, ordered_drop}
+use Rattle.std.proofs.lemmas.Grind.{common_steps}
 
 -- the first entry that is left
 abbrev pub head_of : {A : Type 0} → (Entry → A) → A → List Entry → A
@@ -46,76 +40,20 @@ module _ (key_cols sid : ℕ) where
 
   -- what stands before the base row's changes is no delete of it
   no_delete : (x : Entry) → T (stands_before base_cmp sid x) → T (not (is_delete_at sid x))
-  no_delete x h = by (x.sid == sid) refl x.change refl
-    where
-      by : (here : Bool) → (x.sid == sid) ≡ here → (c : Change) → x.change ≡ c → T (not (here && is_delete c))
-      by false e c s = tt
-      by true e (Ins row) s = tt
-      by true e (Mod col value) s = tt
-      by true e (Del key) s =
-          absurd (at_base (nat_cmp sid x.sid) refl (subst (λ c. T (is_gt (ordering_then (nat_cmp sid x.sid) (base_cmp c)))) s h))
-        where
-          at_base : (r : Ordering) → nat_cmp sid x.sid ≡ r → T (is_gt (ordering_then r Equal)) → ⊥
-          at_base Less f g = g
-          at_base Equal f g = g
-          at_base Greater f g =
-              let same : x.sid ≡ sid = eqb-true x.sid sid e in
-              let gt : x.sid < sid = ranked sid x.sid Greater (sym f) in
-              omega arith
+  no_delete x h = search rules
 
   pub no_deletes : (xs : List Entry) → T (list_all (λ x. not (is_delete_at sid x)) xs) → has_delete sid xs ≡ false
   no_deletes [] h = refl
-  no_deletes (x ∷ xs) h =
-      let none : is_delete_at sid x ≡ false =
-      false_of (is_delete_at sid x) (first (not (is_delete_at sid x)) (list_all (λ y. not (is_delete_at sid y)) xs) h) in
-      ap (λ b. b || has_delete sid xs) none
-      ∙ no_deletes xs (second (not (is_delete_at sid x)) (list_all (λ y. not (is_delete_at sid y)) xs) h)
-    where
-      false_of : (b : Bool) → T (not b) → b ≡ false
-      false_of true h = absurd h
-      false_of false h = refl
+  no_deletes (x ∷ xs) h = grind (arith, common_steps, no_deletes xs (second (not (is_delete_at sid x)) (list_all (λ y. not (is_delete_at sid y)) xs) h), first, second)
 
   pub skip_deletes : (xs ys : List Entry) → T (list_all (λ x. not (is_delete_at sid x)) xs) → has_delete sid (xs ++ ys) ≡ has_delete sid ys
   skip_deletes [] ys h = refl
-  skip_deletes (x ∷ xs) ys h =
-      let none : is_delete_at sid x ≡ false =
-      false_of (is_delete_at sid x) (first (not (is_delete_at sid x)) (list_all (λ y. not (is_delete_at sid y)) xs) h) in
-      ap (λ b. b || has_delete sid (xs ++ ys)) none
-      ∙ skip_deletes xs ys (second (not (is_delete_at sid x)) (list_all (λ y. not (is_delete_at sid y)) xs) h)
-    where
-      false_of : (b : Bool) → T (not b) → b ≡ false
-      false_of true h = absurd h
-      false_of false h = refl
+  skip_deletes (x ∷ xs) ys h = grind (arith, common_steps, skip_deletes xs ys (second (not (is_delete_at sid x)) (list_all (λ y. not (is_delete_at sid y)) xs) h), first, second)
 
   -- past an entry that is no delete of the row and stands before none of its changes, there is none
   after_no_delete : (y z : Entry) → T (not (stands_before base_cmp sid y)) → T (not (is_delete_at sid y))
       → T (is_lt (entry_cmp key_cols y z)) → T (not (is_delete_at sid z))
-  after_no_delete y z b d lt = by (z.sid == sid) refl z.change refl
-    where
-      by : (here : Bool) → (z.sid == sid) ≡ here → (c : Change) → z.change ≡ c → T (not (here && is_delete c))
-      by false e c s = tt
-      by true e (Ins row) s = tt
-      by true e (Mod col value) s = tt
-      by true e (Del key) s =
-          let at : z.sid ≡ sid = eqb-true z.sid sid e in
-          let below : T (is_lt (ordering_then (nat_cmp y.sid sid) (change_cmp key_cols y.change (Del key)))) =
-          subst (λ n. T (is_lt (ordering_then (nat_cmp y.sid n) (change_cmp key_cols y.change (Del key))))) at
-          (subst (λ c. T (is_lt (ordering_then (nat_cmp y.sid z.sid) (change_cmp key_cols y.change c)))) s lt) in
-          absurd (level (nat_cmp y.sid sid) refl y.change refl below)
-        where
-          level : (r : Ordering) → nat_cmp y.sid sid ≡ r → (c : Change) → y.change ≡ c
-              → T (is_lt (ordering_then r (change_cmp key_cols c (Del key)))) → ⊥
-          level Less f c g h =
-              let lt : y.sid < sid = ranked y.sid sid Less (sym f) in
-              subst (λ r. T (not (is_gt (ordering_then r (base_cmp y.change))))) (nat_cmp-greater sid y.sid lt) b
-          level Equal f (Ins row) g h =
-              let same : y.sid ≡ sid = ranked y.sid sid Equal (sym f) in
-              let tie : nat_cmp sid y.sid ≡ Equal = ap (nat_cmp sid) same ∙ tied_itself nat_cmp_total sid in
-              let base = subst (λ r. T (not (is_gt (ordering_then r (base_cmp y.change))))) tie b in
-              subst (λ c. T (not (is_gt (base_cmp c)))) g base
-          level Equal f (Del k) g h = h
-          level Equal f (Mod col value) g h = h
-          level Greater f c g h = h
+  after_no_delete y z b d lt = search rules
 
   pub has_delete-split : (es : List Entry) (n : ℕ) → T (are_ordered key_cols es) → IsSplit (stands_before base_cmp sid) es n
       → has_delete sid es ≡ head_of (is_delete_at sid) false (drop n es)

@@ -1,10 +1,9 @@
 -- A change keeps the entries in order.
-use Rattle.std.proofs.Common.{◌≡◌, ℕ, zero, suc, ◌<◌, ◌≤◌, Bool, true, false, cond, not, ◌&&◌, T, List, [], ◌∷◌, ◌++◌, length, take, drop, set, get_or, remove, nat_cmp, Ordering, Less, Equal, Greater, is_lt, is_eq, is_gt, refl, sym, ap, ◌∙◌, subst, arith, take-append-drop, drop-cons}
+use Rattle.std.proofs.Common.{◌≡◌, ℕ, zero, suc, ◌<◌, ◌≤◌, Bool, true, false, cond, not, ◌&&◌, T, List, [], ◌∷◌, ◌++◌, length, take, drop, set, get_or, remove, nat_cmp, Ordering, Less, Equal, Greater, is_lt, is_eq, refl, sym, ap, ◌∙◌, subst, arith, take-append-drop, drop-cons, rules}
 use Rattle.std.specs.Ordering.{ordering_then, ordering_reverse}
 use Rattle.std.specs.Cmp.{ranked, nat_cmp_total}
 use Rattle.std.specs.List.{list_all}
-use Rattle.std.proofs.lemmas.List.{take-set-le}
-use Rattle.values.specs.Orders.{key_cmp, key_cmp_total}
+use Rattle.values.specs.Orders.{key_cmp_total}
 use Rattle.values.specs.Shape.{key_of}
 use Rattle.values.specs.declared.row.Row.{Row}
 use Rattle.values.specs.declared.row.Key.{Key}
@@ -23,6 +22,7 @@ use Rattle.std.proofs.lemmas.Bool.{eqb-true}
 use Rattle.delta.specs.Lookups.{is_insert_at}
 use Rattle.delta.proofs.ChangesLemmas.{set-split, nothing, all_from, tie_is, insert_tie, false_of, modify_tie, insert_cmp-same, modify_cmp-same}
 use Rattle.delta.proofs.Words.{with_run}
+use Rattle.std.proofs.lemmas.Grind.{common_steps}
 
 module _ (key_cols : ℕ) where
   abbrev pub before_all : Entry → List Entry → Bool
@@ -35,9 +35,7 @@ module _ (key_cols : ℕ) where
 
   before_left : (x : Entry) (ys zs : List Entry) → T (before_all x (ys ++ zs)) → T (before_all x ys)
   before_left x [] zs h = tt
-  before_left x (y ∷ ys) zs h =
-      both (is_lt (entry_cmp key_cols x y)) _ (first (is_lt (entry_cmp key_cols x y)) _ h)
-      (before_left x ys zs (second (is_lt (entry_cmp key_cols x y)) _ h))
+  before_left x (y ∷ ys) zs h = grind (arith, common_steps)
 
   before_right : (x : Entry) (ys zs : List Entry) → T (before_all x (ys ++ zs)) → T (before_all x zs)
   before_right x [] zs h = h
@@ -45,9 +43,7 @@ module _ (key_cols : ℕ) where
 
   before_join : (x : Entry) (ys zs : List Entry) → T (before_all x ys) → T (before_all x zs) → T (before_all x (ys ++ zs))
   before_join x [] zs h g = g
-  before_join x (y ∷ ys) zs h g =
-      both (is_lt (entry_cmp key_cols x y)) _ (first (is_lt (entry_cmp key_cols x y)) _ h)
-      (before_join x ys zs (second (is_lt (entry_cmp key_cols x y)) _ h) g)
+  before_join x (y ∷ ys) zs h g = grind (arith, common_steps)
 
   pub ordered_left : (xs ys : List Entry) → T (are_ordered key_cols (xs ++ ys)) → T (are_ordered key_cols xs)
   ordered_left [] ys h = tt
@@ -69,10 +65,7 @@ module _ (key_cols : ℕ) where
   pub ordered_join : (xs ys : List Entry) → T (are_ordered key_cols xs) → T (are_ordered key_cols ys) → T (all_before xs ys)
       → T (are_ordered key_cols (xs ++ ys))
   ordered_join [] ys h g a = g
-  ordered_join (x ∷ xs) ys h g a =
-      both (before_all x (xs ++ ys)) _
-      (before_join x xs ys (first (before_all x xs) _ h) (first (before_all x ys) _ a))
-      (ordered_join xs ys (second (before_all x xs) _ h) g (second (before_all x ys) _ a))
+  ordered_join (x ∷ xs) ys h g a = grind (arith, common_steps, ordered_join xs ys (second (before_all x xs) _ h) g (second (before_all x ys) _ a), both, before_join, first, second)
 
   across_right : (xs ys zs : List Entry) → T (all_before xs (ys ++ zs)) → T (all_before xs zs)
   across_right [] ys zs h = tt
@@ -83,10 +76,7 @@ module _ (key_cols : ℕ) where
   across_cons : (xs : List Entry) (e : Entry) (zs : List Entry) → T (list_all (λ x. is_lt (entry_cmp key_cols x e)) xs)
       → T (all_before xs zs) → T (all_before xs (e ∷ zs))
   across_cons [] e zs h g = tt
-  across_cons (x ∷ xs) e zs h g =
-      let here : T (before_all x (e ∷ zs)) =
-      both (is_lt (entry_cmp key_cols x e)) _ (first (is_lt (entry_cmp key_cols x e)) _ h) (first (before_all x zs) _ g) in
-      both (before_all x (e ∷ zs)) _ here (across_cons xs e zs (second (is_lt (entry_cmp key_cols x e)) _ h) (second (before_all x zs) _ g))
+  across_cons (x ∷ xs) e zs h g = grind (arith, common_steps, across_cons xs e zs (second (is_lt (entry_cmp key_cols x e)) _ h) (second (before_all x zs) _ g), both, first, second)
 
   drop-drop : (n m : ℕ) (es : List Entry) → n ≤ m → (ms : List Entry) × (drop n es ≡ ms ++ drop m es)
   drop-drop zero m es le = (take m es, sym (take-append-drop m es))
@@ -144,9 +134,7 @@ module _ (key_cols : ℕ) where
   then_turned Greater o = refl
 
   pub entry_cmp-turned : (x y : Entry) → entry_cmp key_cols x y ≡ ordering_reverse (entry_cmp key_cols y x)
-  entry_cmp-turned x y =
-      (λ i. ordering_then (nat_cmp_total.antisymm x.sid y.sid i) (change_cmp-turned x.change y.change i))
-      ∙ then_turned (nat_cmp y.sid x.sid) (change_cmp key_cols y.change x.change)
+  entry_cmp-turned x y = grind (arith, common_steps, change_cmp-turned, then_turned, nat_cmp)
 
   change_cmp-trans : (x y z : Change) → change_cmp key_cols x y ≡ Less → change_cmp key_cols y z ≡ Less → change_cmp key_cols x z ≡ Less
   change_cmp-trans (Ins a) (Ins b) (Ins c) p q = key_cmp_total.trans (key_of key_cols a) (key_of key_cols b) (key_of key_cols c) p q
@@ -219,15 +207,7 @@ module _ (key_cols : ℕ) where
     -- one that neither stands before nor ties stands after
     pub less_of : (z : Entry) → T (not (stands_before cmp sid z)) → is_eq (entry_cmp key_cols put z) ≡ false
         → entry_cmp key_cols put z ≡ Less
-    less_of z h untied =
-        let at : ordering_then (nat_cmp sid z.sid) (cmp z.change) ≡ entry_cmp key_cols put z =
-        ap (ordering_then (nat_cmp sid z.sid)) (same z.change) in
-        by (entry_cmp key_cols put z) (subst (λ r. T (not (is_gt r))) at h) untied
-      where
-        by : (r : Ordering) → T (not (is_gt r)) → is_eq r ≡ false → r ≡ Less
-        by Less g u = refl
-        by Equal g u = cc
-        by Greater g u = absurd g
+    less_of z h untied = search rules
 
     -- what stands after one that is after
     pub all_after_less : (y : Entry) (zs : List Entry) → entry_cmp key_cols put y ≡ Less → T (before_all y zs) → T (before_all put zs)
@@ -256,27 +236,11 @@ module _ (key_cols : ℕ) where
   pub delete_before : (sid : ℕ) (key : Key) (zs : List Entry) → T (list_all (λ z. not (stands_before past_cmp sid z)) zs)
       → T (before_all (entry_at sid (Del key)) zs)
   delete_before sid key [] h = tt
-  delete_before sid key (z ∷ zs) h =
-      both (is_lt (entry_cmp key_cols (entry_at sid (Del key)) z)) _
-      (past (nat_cmp sid z.sid) (first (not (stands_before past_cmp sid z)) _ h))
-      (delete_before sid key zs (second (not (stands_before past_cmp sid z)) _ h))
-    where
-      past : (r : Ordering) → T (not (is_gt (ordering_then r Greater)))
-          → T (is_lt (ordering_then r (change_cmp key_cols (Del key) z.change)))
-      past Less g = tt
-      past Equal g = absurd g
-      past Greater g = absurd g
+  delete_before sid key (z ∷ zs) h = search rules
 
   modify_alike : (sid col : ℕ) (value w : Value) (y z : Entry) → y.sid ≡ sid → y.change ≡ Mod col w
       → entry_cmp key_cols y z ≡ entry_cmp key_cols (entry_at sid (Mod col value)) z
-  modify_alike sid col value w y z s c =
-      (λ i. ordering_then (nat_cmp (s i) z.sid) (change_cmp key_cols (c i) z.change))
-      ∙ ap (ordering_then (nat_cmp sid z.sid)) (by z.change)
-    where
-      by : (d : Change) → change_cmp key_cols (Mod col w) d ≡ change_cmp key_cols (Mod col value) d
-      by (Ins row) = refl
-      by (Del key) = refl
-      by (Mod other u) = refl
+  modify_alike sid col value w y z s c = search rules
 
   pub modify_before : (sid col : ℕ) (value : Value) (ys : List Entry) → T (are_ordered key_cols ys)
       → T (list_all (λ y. not (stands_before (modify_cmp col) sid y)) ys)
@@ -318,44 +282,20 @@ module _ (key_cols : ℕ) where
   -- ---- another value in a cell outside the key
 
   module _ (col : ℕ) (value : Value) (outside : key_cols ≤ col) where
-    same_key : (row : Row) → key_of key_cols (set row col value) ≡ key_of key_cols row
-    same_key row = take-set-le key_cols row col value outside
-
-    changed_right : (c d : Change) → change_cmp key_cols c (change_with_cell col value d) ≡ change_cmp key_cols c d
-    changed_right (Ins row) (Ins other) = ap (key_cmp (key_of key_cols row)) (same_key other)
-    changed_right (Del key) (Ins other) = refl
-    changed_right (Mod other w) (Ins row) = refl
-    changed_right c (Del key) = refl
-    changed_right c (Mod other w) = refl
-
-    changed_left : (c d : Change) → change_cmp key_cols (change_with_cell col value c) d ≡ change_cmp key_cols c d
-    changed_left (Ins row) (Ins other) = ap (λ k. key_cmp k (key_of key_cols other)) (same_key row)
-    changed_left (Ins row) (Del key) = refl
-    changed_left (Ins row) (Mod other w) = refl
-    changed_left (Del key) d = refl
-    changed_left (Mod other w) d = refl
-
     abbrev with_cell : Entry → Entry
     with_cell y = entry_at y.sid (change_with_cell col value y.change)
 
     all_before_changed : (y : Entry) (xs : List Entry) → T (list_all (λ x. is_lt (entry_cmp key_cols x y)) xs)
         → T (list_all (λ x. is_lt (entry_cmp key_cols x (with_cell y))) xs)
-    all_before_changed y xs h =
-        all_from (λ x. is_lt (entry_cmp key_cols x y)) (λ x. is_lt (entry_cmp key_cols x (with_cell y)))
-        (λ x g. subst (λ o. T (is_lt (ordering_then (nat_cmp x.sid y.sid) o))) (sym (changed_right x.change y.change)) g) xs h
+    all_before_changed y xs h = grind (arith, common_steps)
 
     changed_before_all : (y : Entry) (zs : List Entry) → T (before_all y zs) → T (before_all (with_cell y) zs)
-    changed_before_all y zs h =
-        all_from (λ z. is_lt (entry_cmp key_cols y z)) (λ z. is_lt (entry_cmp key_cols (with_cell y) z))
-        (λ z g. subst (λ o. T (is_lt (ordering_then (nat_cmp y.sid z.sid) o))) (sym (changed_left y.change z.change)) g) zs h
+    changed_before_all y zs h = grind (arith, common_steps)
 
     heads : (xs : List Entry) (y : Entry) (zs : List Entry) → T (all_before xs (y ∷ zs))
         → T (list_all (λ x. is_lt (entry_cmp key_cols x y)) xs)
     heads [] y zs h = tt
-    heads (x ∷ xs) y zs h =
-        let here : T (before_all x (y ∷ zs)) = first (before_all x (y ∷ zs)) (all_before xs (y ∷ zs)) h in
-        both (is_lt (entry_cmp key_cols x y)) _ (first (is_lt (entry_cmp key_cols x y)) (before_all x zs) here)
-        (heads xs y zs (second (before_all x (y ∷ zs)) (all_before xs (y ∷ zs)) h))
+    heads (x ∷ xs) y zs h = grind (arith, common_steps, heads xs y zs (second (before_all x (y ∷ zs)) (all_before xs (y ∷ zs)) h), first, both, second)
 
     pub ordered-changed : (es : List Entry) (n : ℕ) → n < length es → T (are_ordered key_cols es)
         → T (are_ordered key_cols (set es n (with_cell (get_or es n nothing))))

@@ -1,10 +1,9 @@
 -- The walk over entries in order ends at the one place with the position.
-use Rattle.std.proofs.Common.{◌≡◌, inl, inr, ℕ, zero, suc, ◌+◌, ◌-◌, ◌<◌, ◌≤◌, Bool, true, false, cond, ◌&&◌, ◌||◌, T, Option}
+use Rattle.std.proofs.Common.{◌≡◌, inl, inr, ℕ, zero, suc, ◌+◌, ◌-◌, ◌<◌, ◌≤◌, Bool, true, false, cond, ◌&&◌, ◌||◌, T, Option, rules}
 use Rattle.std.proofs.Common.{Some, None, List, [], ◌∷◌, filter, take, nat_cmp, Ordering, Less, Equal, Greater, is_lt, is_gt, refl}
-use Rattle.std.proofs.Common.{sym, ap, ◌∙◌, arith, zero-add}
-use Rattle.std.specs.Prelude.{◌==◌, nat_lt, nat_le, IsTrue, slice_get}
+use Rattle.std.proofs.Common.{sym, ap, ◌∙◌, arith}
+use Rattle.std.specs.Prelude.{◌==◌, nat_lt, nat_le, slice_get}
 use Rattle.std.specs.Ordering.{ordering_then}
-use Rattle.std.specs.Option.{IsSomeAnd}
 use Rattle.std.specs.List.{list_all}
 use Rattle.std.proofs.lemmas.Bool.{cases_lt}
 use Rattle.std.proofs.lemmas.Bool.Decides.{nat_tests}
@@ -22,6 +21,7 @@ use Rattle.delta.specs.Lookups.{has_delete}
 use Rattle.delta.specs.Positions.{IsAtRid}
 use Rattle.delta.proofs.CountLemmas.{insert_worth, delete_worth, insert_count-cons, delete_count-cons}
 use Rattle.delta.proofs.ChangesLemmas.{all_from}
+use Rattle.std.proofs.lemmas.Grind.{common_steps}
 
 -- ---- entries whose SIDs ascend
 
@@ -35,10 +35,7 @@ le_of a b h = grind (arith, nat_tests)
 
 zero_le : (es : List Entry) → T (list_all (λ y. nat_le 0 y.sid) es)
 zero_le [] = tt
-zero_le (e ∷ es) = both (nat_le 0 e.sid) _ (none_below e.sid) (zero_le es)
-  where
-    none_below : (a : ℕ) → T (nat_le 0 a)
-    none_below a = grind (arith, nat_tests)
+zero_le (e ∷ es) = grind (arith, common_steps, zero_le es, both, nat_tests)
 
 -- what stands before another isn't at a greater SID
 not_past : (s t : ℕ) (o : Ordering) → T (is_lt (ordering_then (nat_cmp s t) o)) → T (nat_le (s + 0) t)
@@ -72,23 +69,11 @@ module _ (key_cols : ℕ) where
 
 pub insert_count-filter : (p : Entry → Bool) (e : Entry) (es : List Entry)
     → insert_count (filter p (e ∷ es)) ≡ cond (p e) (insert_worth e.change) 0 + insert_count (filter p es)
-insert_count-filter p e es =
-    elim (p e) as
-    (λ b. insert_count (cond b (e ∷ filter p es) (filter p es)) ≡ cond b (insert_worth e.change) 0 + insert_count
-    (filter p es)) [
-      | true ↦ insert_count-cons e (filter p es)
-      | false ↦ sym (zero-add (insert_count (filter p es)))
-    ]
+insert_count-filter p e es = search rules
 
 pub delete_count-filter : (p : Entry → Bool) (e : Entry) (es : List Entry)
     → delete_count (filter p (e ∷ es)) ≡ cond (p e) (delete_worth e.change) 0 + delete_count (filter p es)
-delete_count-filter p e es =
-    elim (p e) as
-    (λ b. delete_count (cond b (e ∷ filter p es) (filter p es)) ≡ cond b (delete_worth e.change) 0 + delete_count
-    (filter p es)) [
-      | true ↦ delete_count-cons e (filter p es)
-      | false ↦ sym (zero-add (delete_count (filter p es)))
-    ]
+delete_count-filter p e es = search rules
 
 -- the inserts up to a SID, and the deletes below it
 abbrev pub ins_to : ℕ → List Entry → ℕ
@@ -181,13 +166,7 @@ del_below-le m s (e ∷ es) h le =
 delete_count-take-le : (m j : ℕ) (es : List Entry) (x : Entry) → Ascends m es → slice_get es j ≡ Some x
     → delete_count (take j es) + m ≤ x.sid
 delete_count-take-le m j [] x h is = absurd (no_item x is)
-delete_count-take-le m zero (e ∷ es) x h is =
-    let same : e.sid ≡ x.sid = ap (sid_or 0) is in
-    omega (arith, h.0, same)
-  where
-    sid_or : ℕ → Option Entry → ℕ
-    sid_or d None = d
-    sid_or d (Some y) = y.sid
+delete_count-take-le m zero (e ∷ es) x h is = search rules
 delete_count-take-le m (suc j) (e ∷ es) x h is =
     omega (arith, h.0, delete_count-cons e (take j es), delete_count-take-le (e.sid + delete_worth e.change) j es x h.1 is)
 
@@ -203,82 +182,21 @@ place_from rid passed inserts deletes (e ∷ entries) =
     (place_from rid (passed + 1) (cond (is_insert e.change) (inserts + 1) inserts) (cond (is_delete e.change) (deletes + 1) deletes)
     entries))
 
-not_lt : (a b : ℕ) → b ≤ a → nat_lt a b ≡ false
-not_lt a b h = grind (arith, nat_tests)
-
-is_lt_of : (a b : ℕ) → a < b → nat_lt a b ≡ true
-is_lt_of a b h = grind (arith, nat_tests)
-
--- an entry that is passed isn't the insert at the position
-not_here : (c : Change) (at row : ℕ) → row + insert_worth c ≤ at → (is_insert c && (at == row)) ≡ false
-not_here (Ins r) at row h = grind (arith, nat_tests)
-not_here (Del key) at row h = refl
-not_here (Mod col value) at row h = refl
-
--- the counts with one change more
-more_inserts : (c : Change) (n : ℕ) → cond (is_insert c) (n + 1) n ≡ n + insert_worth c
-more_inserts (Ins row) n = refl
-more_inserts (Del key) n = omega arith
-more_inserts (Mod col value) n = omega arith
-
-more_deletes : (c : Change) (n : ℕ) → cond (is_delete c) (n + 1) n ≡ n + delete_worth c
-more_deletes (Ins row) n = omega arith
-more_deletes (Del key) n = refl
-more_deletes (Mod col value) n = omega arith
-
 -- the walk passes an entry that stands at the position or before it, and isn't the insert there
 passes_on : (rid p a d : ℕ) (e : Entry) (es : List Entry) → (e.sid + a) + insert_worth e.change ≤ rid + d
     → place_from rid p a d (e ∷ es) ≡ place_from rid (p + 1) (a + insert_worth e.change) (d + delete_worth e.change) es
-passes_on rid p a d e es h =
-    let le : e.sid + a ≤ rid + d = omega (arith, h) in
-    let next : Place = place_from rid (p + 1) (cond (is_insert e.change) (a + 1) a) (cond (is_delete e.change) (d + 1) d) es in
-    ap (λ b. cond b (Base ((rid + d) - a)) (cond (is_insert e.change && ((rid + d) == (e.sid + a))) (Inserted p) next))
-    (not_lt (rid + d) (e.sid + a) le)
-    ∙ ap (λ b. cond b (Inserted p) next) (not_here e.change (rid + d) (e.sid + a) h)
-    ∙ (λ i. place_from rid (p + 1) (more_inserts e.change a i) (more_deletes e.change d i) es)
+passes_on rid p a d e es h = search rules
 
 -- it ends before an entry that stands past the position
 ends_before : (rid p a d : ℕ) (e : Entry) (es : List Entry) → rid + d < e.sid + a → place_from rid p a d (e ∷ es) ≡ Base ((rid + d) - a)
-ends_before rid p a d e es lt =
-    ap (λ b. cond b (Base ((rid + d) - a))
-    (cond (is_insert e.change && ((rid + d) == (e.sid + a))) (Inserted p)
-    (place_from rid (p + 1) (cond (is_insert e.change) (a + 1) a) (cond (is_delete e.change) (d + 1) d) es)))
-    (is_lt_of (rid + d) (e.sid + a) lt)
-
--- and at the insert there
-ends_at : (rid p a d : ℕ) (e : Entry) (es : List Entry) → is_insert e.change ≡ true → rid + d ≡ e.sid + a
-    → place_from rid p a d (e ∷ es) ≡ Inserted p
-ends_at rid p a d e es insert same =
-    let next : Place = place_from rid (p + 1) (cond (is_insert e.change) (a + 1) a) (cond (is_delete e.change) (d + 1) d) es in
-    let le : e.sid + a ≤ rid + d = omega (arith, same) in
-    ap (λ b. cond b (Base ((rid + d) - a)) (cond (is_insert e.change && ((rid + d) == (e.sid + a))) (Inserted p) next))
-    (not_lt (rid + d) (e.sid + a) le)
-    ∙ ap (λ b. cond b (Inserted p) next) (both_true insert (equal (rid + d) (e.sid + a) same))
-  where
-    equal : (x y : ℕ) → x ≡ y → (x == y) ≡ true
-    equal x y h = grind (arith, nat_tests)
-
-    both_true : {x y : Bool} → x ≡ true → y ≡ true → (x && y) ≡ true
-    both_true h g = λ i. h i && g i
+ends_before rid p a d e es lt = search rules
 
 -- ---- the walk ends at each place with the position
-
-abbrev sid_of : ℕ → Option Entry → ℕ
-sid_of d None = d
-sid_of d (Some y) = y.sid
-
-abbrev inserts_there : Option Entry → Bool
-inserts_there None = false
-inserts_there (Some y) = is_insert y.change
 
 walk-insert : (rid p a d m j : ℕ) (es : List Entry) (x : Entry) → Ascends m es → slice_get es j ≡ Some x → is_insert x.change ≡ true
     → (rid + d) + delete_count (take j es) ≡ (x.sid + a) + insert_count (take j es) → place_from rid p a d es ≡ Inserted (p + j)
 walk-insert rid p a d m j [] x h is insert at = absurd (no_item x is)
-walk-insert rid p a d m zero (e ∷ es) x h is insert at =
-    let same : e.sid ≡ x.sid = ap (sid_of 0) is in
-    let inserts : is_insert e.change ≡ true = ap inserts_there is ∙ insert in
-    let none : p ≡ p + 0 = omega arith in
-    ends_at rid p a d e es inserts (omega (arith, at, same)) ∙ ap Inserted none
+walk-insert rid p a d m zero (e ∷ es) x h is insert at = search rules
 walk-insert rid p a d m (suc j) (e ∷ es) x h is insert at =
     let ins = insert_count-cons e (take j es) in
     let del = delete_count-cons e (take j es) in
@@ -295,15 +213,7 @@ walk-insert rid p a d m (suc j) (e ∷ es) x h is insert at =
 -- what is no delete at the SID leaves the next base row to come
 past_it : (e : Entry) (s : ℕ) (rest : Bool) → (((e.sid == s) && is_delete e.change) || rest) ≡ false → e.sid ≤ s
     → e.sid + delete_worth e.change ≤ s
-past_it e s rest free le = by e.change free
-  where
-    by : (c : Change) → (((e.sid == s) && is_delete c) || rest) ≡ false → e.sid + delete_worth c ≤ s
-    by (Ins row) f = omega (arith, le)
-    by (Mod col value) f = omega (arith, le)
-    by (Del key) f = apart (e.sid) f le
-      where
-        apart : (x : ℕ) → (((x == s) && true) || rest) ≡ false → x ≤ s → x + 1 ≤ s
-        apart x f le = grind (arith, nat_tests)
+past_it e s rest free le = search rules
 
 rest_free : (b rest : Bool) → (b || rest) ≡ false → rest ≡ false
 rest_free true rest h = cc
@@ -348,24 +258,8 @@ walk-base rid p a d m s (e ∷ es) h le free at =
 module _ (key_cols : ℕ) (es : List Entry) (ordered : T (are_ordered key_cols es)) (rid : ℕ) where
   -- each place with the position is that where the walk ends
   place_from-only : (place : Place) → IsAtRid es rid place → place ≡ place_from rid 0 0 0 es
-  place_from-only (Inserted k) at = by (slice_get es k) refl at
-    where
-      by : (o : Option Entry) → slice_get es k ≡ o
-          → IsSomeAnd o (λ e. IsTrue (is_insert e.change) × ((e.sid + insert_count (take k es)) - delete_count (take k es) ≡ rid))
-          → Inserted k ≡ place_from rid 0 0 0 es
-      by None is g = absurd g
-      by (Some x) is g =
-          let up = ascends key_cols es ordered in
-          let few_before = delete_count-take-le 0 k es x up is in
-          let same : (rid + 0) + delete_count (take k es) ≡ (x.sid + 0) + insert_count (take k es) = omega (arith, g.1, few_before) in
-          let index : k ≡ 0 + k = omega arith in
-          ap Inserted index ∙ sym (walk-insert rid 0 0 0 0 k es x up is g.0 same)
-  place_from-only (Base s) at =
-      let up = ascends key_cols es ordered in
-      let zero_le_s : 0 ≤ s = omega arith in
-      let few_below = del_below-le 0 s es up zero_le_s in
-      let same : (rid + 0) + del_below s es ≡ (s + 0) + ins_to s es = omega (arith, at.1, few_below) in
-      sym (walk-base rid 0 0 0 0 s es up zero_le_s at.0 same)
+  place_from-only (Inserted k) at = grind (arith, common_steps, ascends, delete_count-take-le, walk-insert)
+  place_from-only (Base s) at = grind (arith, common_steps, ascends, del_below-le, walk-base)
 
   -- so there is one
   pub row_only : (place other : Place) → IsAtRid es rid place → IsAtRid es rid other → place ≡ other
@@ -386,24 +280,9 @@ deletes_to sid m (suc n) (e ∷ es) h le b =
 module _ (cmp : Change → Ordering) (no_delete : (gone : Key) → cmp (Del gone) ≡ Greater → ⊥) (sid : ℕ) where
   -- what stands before it is at a smaller SID, or no delete
   before_it : (c : Change) (n : ℕ) → T (is_gt (ordering_then (nat_cmp sid n) (cmp c))) → T (nat_le (n + delete_worth c) sid)
-  before_it (Ins row) n h = not_above (cmp (Ins row)) h
-    where
-      not_above : (o : Ordering) → T (is_gt (ordering_then (nat_cmp sid n) o)) → T (nat_le (n + 0) sid)
-      not_above Less g = grind (arith, nat_tests)
-      not_above Equal g = grind (arith, nat_tests)
-      not_above Greater g = grind (arith, nat_tests)
-  before_it (Mod col value) n h = not_above (cmp (Mod col value)) h
-    where
-      not_above : (o : Ordering) → T (is_gt (ordering_then (nat_cmp sid n) o)) → T (nat_le (n + 0) sid)
-      not_above Less g = grind (arith, nat_tests)
-      not_above Equal g = grind (arith, nat_tests)
-      not_above Greater g = grind (arith, nat_tests)
-  before_it (Del gone) n h = below (cmp (Del gone)) (no_delete gone) h
-    where
-      below : (o : Ordering) → (o ≡ Greater → ⊥) → T (is_gt (ordering_then (nat_cmp sid n) o)) → T (nat_le (n + 1) sid)
-      below Less not g = grind (arith, nat_tests)
-      below Equal not g = grind (arith, nat_tests)
-      below Greater not g = absurd (not refl)
+  before_it (Ins row) n h = search rules
+  before_it (Mod col value) n h = search rules
+  before_it (Del gone) n h = search rules
 
   -- so no more deletes do than its SID says
   deletes-before : (key_cols : ℕ) (es : List Entry) (n : ℕ) → T (are_ordered key_cols es) → IsSplit (stands_before cmp sid) es n
@@ -427,9 +306,4 @@ deletes-before-base key_cols sid es n ordered split = deletes-before base_cmp (�
 
 pub deletes-before-change : (key_cols sid : ℕ) (c : Change) (es : List Entry) (n : ℕ) → T (are_ordered key_cols es)
     → IsSplit (stands_before (change_cmp key_cols c) sid) es n → delete_count (take n es) ≤ sid
-deletes-before-change key_cols sid c es n ordered split = deletes-before (change_cmp key_cols c) (behind c) sid key_cols es n ordered split
-  where
-    behind : (d : Change) (gone : Key) → change_cmp key_cols d (Del gone) ≡ Greater → ⊥
-    behind (Ins row) gone h = cc
-    behind (Del key) gone h = cc
-    behind (Mod col value) gone h = cc
+deletes-before-change key_cols sid c es n ordered split = grind (arith, common_steps, deletes-before)

@@ -1,12 +1,7 @@
 -- An entry put in, whatever its change.
-use Rattle.std.proofs.Common.{◌≡◌, ℕ, ◌<◌, ◌≤◌, ◌^◌, cond, true, false, not, ◌&&◌, T, List, [], ◌∷◌, length, take, drop, get_or}
-use Rattle.std.proofs.Common.{nat_cmp, Ordering, Less, Equal, Greater, is_gt, refl, sym, ap, ◌∙◌, subst, arith, drop-cons}
-use Rattle.std.proofs.Common.{length-drop}
-use Rattle.std.specs.Prelude.{◌==◌}
-use Rattle.std.specs.Ordering.{ordering_then}
-use Rattle.std.specs.Cmp.{ranked}
+use Rattle.std.proofs.Common.{◌≡◌, ℕ, ◌<◌, ◌≤◌, ◌^◌, false, not, T, List, [], ◌∷◌, length, take, drop, get_or, rules}
+use Rattle.std.proofs.Common.{Ordering, Greater, refl, subst, arith, drop-cons}
 use Rattle.std.specs.List.{list_all}
-use Rattle.std.proofs.lemmas.Bool.Decides.{nat_tests}
 use Rattle.std.proofs.lemmas.List.{get_or-take, length-take-le}
 use Rattle.values.specs.declared.row.Row.{Row}
 use Rattle.values.specs.declared.row.Key.{Key}
@@ -17,23 +12,18 @@ use Rattle.model.specs.declared.entry.Change.TheVariants.{Ins, Del, Mod}
 use Rattle.model.specs.Entries.{entry_at, are_ordered, IsLawful}
 use Rattle.model.proofs.CallerLemmas.{first}
 use Rattle.delta.specs.Search.{insert_cmp, base_cmp, modify_cmp, past_cmp, stands_before, IsSplit}
-use Rattle.delta.specs.Changes.{is_modify_at, modifies_column, modify_count, entries_with, MayBePut, IsRun}
+use Rattle.delta.specs.Changes.{modify_count, entries_with, MayBePut, IsRun}
 use Rattle.delta.proofs.ChangesLemmas.{all_from, base-le-past, base_is_past, put_ins-split, put_mod-split, put_del-split}
 use Rattle.delta.proofs.CountedLemmas.{split_from_place}
 use Rattle.delta.proofs.SearchLemmas.{is_true, at_index, parted, past_cmp-closed}
 use Rattle.delta.proofs.LawfulLemmas.{IsLawful-put_ins, IsLawful-put_del, IsLawful-put_mod}
 use Rattle.delta.proofs.Words.{with_run}
+use Rattle.std.proofs.lemmas.Grind.{common_steps}
 
 module _ (key_cols sid : ℕ) where
   -- an entry past the inserts at the SID and at another one stands past the SID
   is_past : (e : Entry) → T (not (stands_before base_cmp sid e)) → (e.sid ≡ sid → ⊥) → stands_before past_cmp sid e ≡ false
-  is_past e h other =
-      elim (nat_cmp sid e.sid) as (λ r. nat_cmp sid e.sid ≡ r → T (not (is_gt (ordering_then r (base_cmp e.change))))
-      → is_gt (ordering_then r Greater) ≡ false) [
-        | Less ↦ λ q g. refl
-        | Equal ↦ λ q g. absurd (other (sym (ranked sid e.sid Equal (sym q))))
-        | Greater ↦ λ q g. absurd g
-      ] refl h
+  is_past e h other = search rules
 
   -- where nothing becomes of the base row, the entries up to its SID end where that would stand
   pub past-base : (es : List Entry) (n : ℕ) → T (are_ordered key_cols es) → IsSplit (stands_before base_cmp sid) es n
@@ -57,57 +47,22 @@ module _ (key_cols sid : ℕ) where
 
   -- an entry past the SID stands past all at it
   not_past-not : (cmp : Change → Ordering) (e : Entry) → T (not (stands_before past_cmp sid e)) → T (not (stands_before cmp sid e))
-  not_past-not cmp e h =
-      elim (nat_cmp sid e.sid) as (λ r. T (not (is_gt (ordering_then r Greater))) → T (not (is_gt (ordering_then r (cmp e.change))))) [
-        | Less ↦ λ g. tt
-        | Equal ↦ λ g. absurd g
-        | Greater ↦ λ g. absurd g
-      ] h
+  not_past-not cmp e h = search rules
 
   -- one before an insert of a key stands before all that stands past the inserts
   pub by_insert : (cmp : Change → Ordering) → ((row : Row) → cmp (Ins row) ≡ Greater) → (key : Key) (e : Entry)
       → T (stands_before (insert_cmp key_cols key) sid e) → T (stands_before cmp sid e)
-  by_insert cmp past key e h =
-      elim (nat_cmp sid e.sid) as (λ r.
-      T (is_gt (ordering_then r (insert_cmp key_cols key e.change))) → T (is_gt (ordering_then r (cmp e.change)))) [
-        | Less ↦ λ g. absurd g
-        | Equal ↦ λ g. level e.change g
-        | Greater ↦ λ g. tt
-      ] h
-    where
-      level : (c : Change) → T (is_gt (insert_cmp key_cols key c)) → T (is_gt (cmp c))
-      level (Ins row) g = subst (λ r. T (is_gt r)) (sym (past row)) tt
-      level (Del gone) g = absurd g
-      level (Mod col value) g = absurd g
+  by_insert cmp past key e h = search rules
 
   -- at the place of a key from which on no entry stands at the SID stands all that stands past the inserts
   pub past-inserts : (cmp : Change → Ordering) → ((row : Row) → cmp (Ins row) ≡ Greater) → (key : Key) (es : List Entry) (n : ℕ)
       → IsSplit (stands_before (insert_cmp key_cols key) sid) es n → IsSplit (stands_before past_cmp sid) es n
       → IsSplit (stands_before cmp sid) es n
-  past-inserts cmp past key es n split end = record {
-    within = split.within;
-    before =
-        all_from (stands_before (insert_cmp key_cols key) sid) (stands_before cmp sid) (by_insert cmp past key) (take n es)
-        split.before;
-    after =
-        all_from (λ e. not (stands_before past_cmp sid e)) (λ e. not (stands_before cmp sid e)) (not_past-not cmp) (drop n es)
-        end.after;
-  }
+  past-inserts cmp past key es n split end = grind (arith, common_steps, all_from, by_insert, not_past-not)
 
   none_modified : (col : ℕ) (es : List Entry) → T (list_all (λ e. not (stands_before past_cmp sid e)) es) → modify_count sid col es ≡ 0
   none_modified col [] h = refl
-  none_modified col (e ∷ es) h =
-      let past = first (not (stands_before past_cmp sid e)) _ h in
-      ap (λ b. cond (b && modifies_column col e.change) 1 0) (other past)
-    where
-      other : T (not (stands_before past_cmp sid e)) → (e.sid == sid) ≡ false
-      other g =
-          elim (nat_cmp sid e.sid) as (λ r.
-          nat_cmp sid e.sid ≡ r → T (not (is_gt (ordering_then r Greater))) → (e.sid == sid) ≡ false) [
-            | Less ↦ λ q f. let lt : sid < e.sid = ranked sid e.sid Less (sym q) in grind (arith, nat_tests)
-            | Equal ↦ λ q f. absurd f
-            | Greater ↦ λ q f. absurd f
-          ] refl g
+  none_modified col (e ∷ es) h = search rules
 
   -- so a delete and a modify of the row stand there, and replace nothing
   pub run-del : (gone key : Key) (es : List Entry) (n : ℕ) → IsSplit (stands_before (insert_cmp key_cols key) sid) es n
@@ -126,23 +81,13 @@ module _ (key_cols sid : ℕ) where
   pub run_within : (change : Change) (es : List Entry) (n m : ℕ) → IsRun key_cols sid change es n m → (n ≤ m) × (m ≤ length es)
   run_within (Ins row) es n m run = (omega (arith, run.1), omega (arith, run.1, run.0.within))
   run_within (Del key) es n m run = (base-le-past key_cols sid es n m run.0 run.1, run.1.within)
-  run_within (Mod col value) es n m run =
-      (omega (arith, run.1), omega (arith, run.1, run.0.within, modify_le (drop n es), length-drop n es))
-    where
-      modify_le : (xs : List Entry) → modify_count sid col xs ≤ length xs
-      modify_le [] = omega arith
-      modify_le (x ∷ xs) = elim (is_modify_at sid col x) as (λ b. cond b 1 0 ≤ length (x ∷ xs)) [
-        | true ↦ omega arith
-        | false ↦ omega arith
-      ]
+  run_within (Mod col value) es n m run = grind (arith, common_steps)
 
   pub entries_with-run : (change : Change) (es : List Entry) (n m : ℕ) → IsRun key_cols sid change es n m → MayBePut key_cols sid change es
       → entries_with key_cols sid change es ≡ with_run es n m (entry_at sid change)
-  entries_with-run (Ins row) es n m run free =
-      put_ins-split key_cols sid row es n run.0 free ∙ ap (λ k. with_run es n k (entry_at sid (Ins row))) (sym run.1)
+  entries_with-run (Ins row) es n m run free = grind (arith, common_steps, put_ins-split, with_run)
   entries_with-run (Del key) es n m run free = put_del-split key_cols sid key es n m run.0 run.1 free
-  entries_with-run (Mod col value) es n m run free =
-      put_mod-split key_cols sid col value es n run.0 free ∙ ap (λ k. with_run es n k (entry_at sid (Mod col value))) (sym run.1)
+  entries_with-run (Mod col value) es n m run free = grind (arith, common_steps, put_mod-split, with_run)
 
   pub IsLawful-entries_with : (change : Change) (es : List Entry) (n m : ℕ) → IsLawful key_cols es → IsRun key_cols sid change es n m
       → MayBePut key_cols sid change es → sid < 2 ^ 32 → length (entries_with key_cols sid change es) ≤ 2 ^ 40

@@ -1,9 +1,7 @@
 -- What stands before a position, and what behind it.
-use Rattle.std.proofs.Common.{◌≡◌, ℕ, ◌+◌, ◌<◌, ◌≤◌, ◌⊎◌, inl, inr, Bool, true, false, Ordering, Less, Equal, Greater, is_gt, int_cmp}
-use Rattle.std.proofs.Common.{List, length, take, get_or, refl, sym, ◌∙◌}
+use Rattle.std.proofs.Common.{◌≡◌, ℕ, ◌+◌, ◌<◌, ◌≤◌, ◌⊎◌, Bool, true, false, Ordering, is_gt, rules}
+use Rattle.std.proofs.Common.{List, length, take, get_or, refl}
 use Rattle.std.specs.Prelude.{ℤ, pos, ◌+ℤ◌, ◌<ℤ◌}
-use Rattle.std.specs.Ordering.{ordering_then}
-use Rattle.std.proofs.lemmas.Cmp.{int_ranked}
 use Rattle.model.specs.declared.entry.Entry.{Entry}
 use Rattle.model.specs.declared.entry.Change.{Change}
 use Rattle.counted.specs.declared.search.Target.TheVariants.{Rid}
@@ -30,28 +28,6 @@ past-where true = refl
 past-where false = refl
 
 module _ (cmp : Change → Ordering) (after : Change → Bool) (told : (c : Change) → is_gt (cmp c) ≡ after c) (rid : ℕ) where
-  leads : (e : Entry) (up : ℤ) → is_before cmp (Rid rid) e up ≡ true → Leads after (pos rid) e up
-  leads e up h =
-      elim (int_cmp (pos rid) (pos e.sid +ℤ up)) as (λ r. int_cmp (pos rid) (pos e.sid +ℤ up) ≡ r
-      → is_gt (ordering_then r (cmp e.change)) ≡ true → Leads after (pos rid) e up) [
-        | Less ↦ λ q b. absurd cc
-        | Equal ↦ λ q b. inr (sym (int_ranked (pos rid) (pos e.sid +ℤ up) Equal (sym q)), sym (told e.change) ∙ b)
-        | Greater ↦ λ q b. inl (int_ranked (pos rid) (pos e.sid +ℤ up) Greater (sym q))
-      ] refl h
-
-  follows : (e : Entry) (up : ℤ) → is_before cmp (Rid rid) e up ≡ false → Follows after (pos rid) e up
-  follows e up h =
-      elim (int_cmp (pos rid) (pos e.sid +ℤ up)) as (λ r. int_cmp (pos rid) (pos e.sid +ℤ up) ≡ r
-      → is_gt (ordering_then r (cmp e.change)) ≡ false → Follows after (pos rid) e up) [
-        | Less ↦ λ q b. inl (int_ranked (pos rid) (pos e.sid +ℤ up) Less (sym q))
-        | Equal ↦ λ q b. inr (sym (int_ranked (pos rid) (pos e.sid +ℤ up) Equal (sym q)), sym (told e.change) ∙ b)
-        | Greater ↦ λ q b. absurd cc
-      ] refl h
-
   -- where a search by position ends
   pub gap_from : (es : List Entry) (n : ℕ) → IsPlace (is_before cmp (Rid rid)) (pos 0) es n → IsGap after (pos rid) (pos 0) es n
-  gap_from es n place = record {
-    within = place.within;
-    low = λ m d is. leads (get_or es m d) (total (take m es) +ℤ pos 0) (place.low m d is);
-    high = λ d lt. follows (get_or es n d) (total (take n es) +ℤ pos 0) (place.high d lt);
-  }
+  gap_from es n place = search rules

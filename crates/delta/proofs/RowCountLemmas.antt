@@ -1,8 +1,7 @@
 -- How many rows effects leave, and how many entries they have at most.
-use Rattle.std.proofs.Common.{◌≡◌, ℕ, suc, ◌+◌, ◌-◌, ◌*◌, ◌≤◌, ◌<◌, cond, not, T, Option, Some, None, is_some, is_none, option_map, [], ◌∷◌, map, length, nat_cmp, Less, Equal, Greater, is_lt, is_eq, refl, sym, ap, ◌∙◌, subst, arith}
+use Rattle.std.proofs.Common.{◌≡◌, ℕ, suc, ◌+◌, ◌-◌, ◌*◌, ◌≤◌, ◌<◌, cond, not, T, Option, Some, None, is_some, is_none, option_map, [], ◌∷◌, map, length, nat_cmp, Less, Equal, Greater, is_eq, refl, sym, ap, ◌∙◌, subst, arith}
 use Rattle.std.specs.Prelude.{slice_get}
 use Rattle.std.specs.List.{list_all}
-use Rattle.std.specs.Cmp.{ranked}
 use Rattle.std.specs.FinMap.Entries.{below_all, length-put}
 use Rattle.std.proofs.lemmas.Float.{T_from_true}
 use Rattle.std.proofs.lemmas.Option.{slice_get_within}
@@ -17,12 +16,13 @@ use Rattle.model.specs.declared.effect.Effect.{Effect}
 use Rattle.model.specs.declared.effect.Effect.TheVariants.{Ins, Del, Mod, Rep}
 use Rattle.model.specs.declared.entry.Change.TheVariants as change
 use Rattle.model.specs.Maps.{is_sorted, without, store, alter}
-use Rattle.model.specs.Table.{Table, row_at, rank, is_keyed_table}
-use Rattle.model.specs.Effects.{Cells, Effects, set_cells, fits, has_cells, row_after, all_fit, table_with, is_keyed_effect, are_keyed_effects, effect_fits_schema, AreOver}
+use Rattle.model.specs.Table.{Table, row_at, is_keyed_table}
+use Rattle.model.specs.Effects.{Cells, Effects, set_cells, fits, row_after, all_fit, table_with, is_keyed_effect, are_keyed_effects, effect_fits_schema, AreOver}
 use Rattle.model.specs.Entries.{entry_at, entries_of, canonical_entries}
 use Rattle.model.specs.Places.{insert_count, delete_count}
 use Rattle.model.proofs.CallerLemmas.{first, second, less, without_below, below_tied, sorted-alter, inserts_of, deletes_of, fits_other, add_up}
 use Rattle.delta.proofs.CountLemmas.{insert_count-append, delete_count-append}
+use Rattle.std.proofs.lemmas.Grind.{common_steps}
 
 -- ---- what one effect does to the number of rows
 
@@ -111,23 +111,16 @@ delete_count-entries_of sid key (Rep row) = refl
 
 insert_count-canonical_entries : (t : Table) (x : Effects) → insert_count (canonical_entries t x) ≡ sum_of inserts_of x
 insert_count-canonical_entries t [] = refl
-insert_count-canonical_entries t (e ∷ x) =
-    insert_count-append (entries_of (rank e.0 t) e.0 e.1) (canonical_entries t x)
-    ∙ (λ i. insert_count-entries_of (rank e.0 t) e.0 e.1 i + insert_count-canonical_entries t x i)
+insert_count-canonical_entries t (e ∷ x) = omega (arith, insert_count-canonical_entries t x, insert_count-append, insert_count-entries_of)
 
 delete_count-canonical_entries : (t : Table) (x : Effects) → delete_count (canonical_entries t x) ≡ sum_of deletes_of x
 delete_count-canonical_entries t [] = refl
-delete_count-canonical_entries t (e ∷ x) =
-    delete_count-append (entries_of (rank e.0 t) e.0 e.1) (canonical_entries t x)
-    ∙ (λ i. delete_count-entries_of (rank e.0 t) e.0 e.1 i + delete_count-canonical_entries t x i)
+delete_count-canonical_entries t (e ∷ x) = omega (arith, delete_count-canonical_entries t x, delete_count-append, delete_count-entries_of)
 
 -- the inserts less the deletes are the rows that come
 pub inserts_less_deletes : (t : Table) (x : Effects) → T (is_sorted key_cmp t) → T (is_sorted key_cmp x) → T (all_fit t x)
     → delete_count (canonical_entries t x) + length (table_with t x) ≡ insert_count (canonical_entries t x) + length t
-inserts_less_deletes t x ht h fit =
-    ap (λ n. n + length (table_with t x)) (delete_count-canonical_entries t x)
-    ∙ length-table_with t x ht h fit
-    ∙ ap (λ n. n + length t) (sym (insert_count-canonical_entries t x))
+inserts_less_deletes t x ht h fit = omega (arith, delete_count-canonical_entries, length-table_with, insert_count-canonical_entries)
 
 -- ---- how many entries there are at most
 
@@ -174,13 +167,7 @@ column_within schema (Some type) col value is fits_here = slice_get_within schem
 cells_within : (schema : Columns) (low : ℕ) (cells : Cells) → T (below_all nat_cmp low cells) → T (is_sorted nat_cmp cells)
     → T (list_all (λ c. cell_fits_schema schema c.0 c.1) cells) → length cells ≤ length schema.types - suc low
 cells_within schema low [] below ascend fit = omega arith
-cells_within schema low (c ∷ cells) below ascend fit =
-    let above : low < c.0 = ranked low c.0 Less (sym (less (nat_cmp low c.0) (first (is_lt (nat_cmp low c.0)) _ below))) in
-    let within = column_within schema (slice_get schema.types c.0) c.0 c.1 refl (first (cell_fits_schema schema c.0 c.1) _ fit) in
-    let rest =
-    cells_within schema c.0 cells (first (below_all nat_cmp c.0 cells) _ ascend)
-    (second (below_all nat_cmp c.0 cells) _ ascend) (second (cell_fits_schema schema c.0 c.1) _ fit) in
-    omega (arith, above, within, rest)
+cells_within schema low (c ∷ cells) below ascend fit = grind (arith, common_steps, cells_within schema c.0 cells (first (below_all nat_cmp c.0 cells) _ ascend) (second (below_all nat_cmp c.0 cells) _ ascend) (second (cell_fits_schema schema c.0 c.1) _ fit), less, nat_cmp, first, column_within, second)
 
 cells_few : (schema : Columns) (cells : Cells) → T (is_sorted nat_cmp cells)
     → T (list_all (λ c. cell_fits_schema schema c.0 c.1) cells) → length cells ≤ length schema.types
@@ -198,36 +185,18 @@ effect_few : (schema : Columns) (sid : ℕ) (key : Key) (f : Effect) → length 
     → length (entries_of sid key f) ≤ inserts_of f + 32 * on_row f
 effect_few schema sid key (Ins row) narrow keyed fit = omega arith
 effect_few schema sid key Del narrow keyed fit = omega arith
-effect_few schema sid key (Mod cells) narrow keyed fit =
-    let ascend = first (is_sorted nat_cmp cells) _ (second (has_cells cells) _ keyed) in
-    let few = cells_few schema cells ascend fit in
-    let same : length (map (λ (c : ℕ × Value). entry_at sid (change.Mod c.0 c.1)) cells) ≡ length cells = length-map _ _ in
-    omega (arith, narrow, few, same)
+effect_few schema sid key (Mod cells) narrow keyed fit = grind (arith, common_steps, first, nat_cmp, second, cells_few, length-map)
 effect_few schema sid key (Rep row) narrow keyed fit = omega arith
 
 entries_few : (schema : Columns) (t : Table) (x : Effects) → length schema.types ≤ 32
     → T (list_all (λ e. is_keyed_effect schema.key_cols e.0 e.1) x) → T (list_all (λ e. effect_fits_schema schema e.1) x)
     → length (canonical_entries t x) ≤ sum_of inserts_of x + 32 * sum_of on_row x
 entries_few schema t [] narrow keyed fit = omega arith
-entries_few schema t (e ∷ x) narrow keyed fit =
-    let here =
-    effect_few schema (rank e.0 t) e.0 e.1 narrow (first (is_keyed_effect schema.key_cols e.0 e.1) _ keyed)
-    (first (effect_fits_schema schema e.1) _ fit) in
-    let rest =
-    entries_few schema t x narrow (second (is_keyed_effect schema.key_cols e.0 e.1) _ keyed)
-    (second (effect_fits_schema schema e.1) _ fit) in
-    let joined = length-append (entries_of (rank e.0 t) e.0 e.1) (canonical_entries t x) in
-    omega (arith, here, rest, joined)
+entries_few schema t (e ∷ x) narrow keyed fit = grind (arith, common_steps, entries_few schema t x narrow (second (is_keyed_effect schema.key_cols e.0 e.1) _ keyed) (second (effect_fits_schema schema e.1) _ fit), effect_few, first, second, length-append)
 
 deletes_few : (x : Effects) → sum_of deletes_of x ≤ sum_of on_row x
 deletes_few [] = omega arith
-deletes_few (e ∷ x) = by e.1 (deletes_few x)
-  where
-    by : (f : Effect) → sum_of deletes_of x ≤ sum_of on_row x → deletes_of f + sum_of deletes_of x ≤ on_row f + sum_of on_row x
-    by (Ins row) rest = omega (arith, rest)
-    by Del rest = omega (arith, rest)
-    by (Mod cells) rest = omega (arith, rest)
-    by (Rep row) rest = omega (arith, rest)
+deletes_few (e ∷ x) = grind (arith, common_steps, deletes_few x, deletes_of)
 
 -- entries are no more than the rows of the image, and as many as columns and one for each row of the table
 pub length-entries_over : (schema : Columns) (t : Table) (x : Effects) → IsSchema schema → AreOver schema t x
@@ -265,7 +234,4 @@ insert_count-any t u x = insert_count-canonical_entries t x ∙ sym (insert_coun
 -- the rows after effects, by the counts of their entries
 pub rows_after : (schema : Columns) (t : Table) (x : Effects) → AreOver schema t x →
     delete_count (canonical_entries t x) + length (table_with t x) ≡ insert_count (canonical_entries t x) + length t
-rows_after schema t x h =
-    let keyed = T_from_true (are_keyed_effects schema.key_cols x) h.effects_are.keyed in
-    let table = T_from_true (is_keyed_table schema.key_cols t) h.table.keyed in
-    inserts_less_deletes t x (first (is_sorted key_cmp t) _ table) (first (is_sorted key_cmp x) _ keyed) (T_from_true (all_fit t x) h.fit)
+rows_after schema t x h = grind (arith, common_steps, inserts_less_deletes, first)

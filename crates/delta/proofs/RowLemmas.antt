@@ -1,16 +1,15 @@
 -- The row at a position, by the place where a descent finds it.
-use Rattle.std.proofs.Common.{◌≡◌, ℕ, zero, suc, ◌+◌, ◌-◌, Bool, true, false, cond, not, ◌&&◌, T, Option, Some, None, List, []}
-use Rattle.std.proofs.Common.{◌∷◌, take, drop, nat_cmp, Less, is_gt, refl, sym, ap, ◌∙◌, subst, arith}
-use Rattle.std.specs.Prelude.{◌==◌, nat_lt, nat_le, IsTrue, slice_get}
+use Rattle.std.proofs.Common.{◌≡◌, ℕ, zero, suc, ◌+◌, ◌-◌, Bool, true, false, cond, not, ◌&&◌, T, Option, Some, None, List, [], rules}
+use Rattle.std.proofs.Common.{◌∷◌, take, drop, nat_cmp, Less, is_gt, refl, ◌∙◌, arith}
+use Rattle.std.specs.Prelude.{◌==◌, nat_lt, nat_le, slice_get}
 use Rattle.std.specs.Ordering.{ordering_then}
-use Rattle.std.specs.Option.{IsSomeAnd}
 use Rattle.std.specs.List.{list_all}
 use Rattle.std.proofs.lemmas.Bool.Decides.{nat_tests}
 use Rattle.model.specs.declared.entry.Entry.{Entry}
 use Rattle.model.specs.declared.entry.Change.{Change}
 use Rattle.model.specs.declared.entry.Change.TheVariants.{Ins, Del, Mod}
 use Rattle.model.specs.Entries.{is_insert, are_ordered}
-use Rattle.model.specs.Places.{insert_count, delete_count, rid_of_insert}
+use Rattle.model.specs.Places.{insert_count, delete_count}
 use Rattle.model.proofs.CallerLemmas.{first, second}
 use Rattle.delta.specs.declared.places.Place.TheVariants.{Inserted, Base}
 use Rattle.delta.specs.Changes.{is_delete_at}
@@ -22,6 +21,7 @@ use Rattle.delta.proofs.CountedLemmas.{next_passes, none_is, some_is, split_wher
 use Rattle.delta.proofs.LookupLemmas.{head_of, has_delete-split}
 use Rattle.delta.proofs.PositionsLemmas.{insert_count-filter, delete_count-filter, ins_to, del_below}
 use Rattle.delta.proofs.SearchLemmas.{parted, base_cmp-closed}
+use Rattle.std.proofs.lemmas.Grind.{common_steps}
 
 -- what the next entry is not, the first of those left is not
 pub head_not : (test : Entry → Bool) (es : List Entry) (n : ℕ) → ((e : Entry) → slice_get es n ≡ Some e → test e ≡ false)
@@ -64,32 +64,8 @@ module _ (s : ℕ) where
       → (ins_to s es ≡ insert_count (take n es)) × (del_below s es ≡ delete_count (take n es))
   counts [] zero b a = (refl, refl)
   counts [] (suc n) b a = (refl, refl)
-  counts (e ∷ es) zero b a =
-      let here = first (not (before e)) _ a in
-      let rest = counts es zero tt (second (not (before e)) _ a) in (
-        omega (arith, insert_count-filter (λ x. nat_le x.sid s) e es, insert_after e.change e.sid here, rest.0),
-        omega
-            (arith, delete_count-filter (λ x. nat_lt x.sid s) e es, delete_after e.change e.sid here, rest.1),
-      )
-  counts (e ∷ es) (suc n) b a =
-      let here = first (before e) _ b in
-      let rest = counts es n (second (before e) _ b) a in (
-        omega (
-          arith,
-          insert_count-filter (λ x. nat_le x.sid s) e es,
-          insert_count-cons e (take n es),
-          insert_before e.change e.sid here,
-          rest.0,
-        ),
-        omega (
-          arith,
-          delete_count-filter (λ x. nat_lt x.sid s) e es,
-          delete_count-cons e (take n es),
-          delete_before e.change
-              e.sid here,
-          rest.1,
-        ),
-      )
+  counts (e ∷ es) zero b a = grind (arith, common_steps, counts es zero tt (second (not (before e)) _ a), first, second, insert_count-filter, insert_after, delete_count-filter, delete_after)
+  counts (e ∷ es) (suc n) b a = grind (arith, common_steps, counts es n (second (before e) _ b) a, first, second, insert_count-filter, insert_count-cons, insert_before, delete_count-filter, delete_count-cons, delete_before)
 
   -- what stands at the SID or past it, and is no insert there, is not before the changes of the base row
   not_before : (c : Change) (m : ℕ) → T (not (is_gt (ordering_then (nat_cmp s m) Less))) → ((m == s) && is_insert c) ≡ false
@@ -119,37 +95,15 @@ module _ (key_cols rid s : ℕ) (es : List Entry) (n : ℕ) (ordered : T (are_or
 
   at_entry : (e : Entry) → slice_get es n ≡ Some e → (b : Bool) → ((e.sid == s) && is_insert e.change) ≡ b
       → IsAtRid es rid (cond b (Inserted n) (Base s))
-  at_entry e is true there =
-      let at = ap (rid_of_insert (take n es)) (same_sid e.sid (is_insert e.change) there) ∙ st.position in
-      subst (λ (o : Option Entry). IsSomeAnd o (λ x. IsTrue (is_insert x.change) × (rid_of_insert (take n es) x.sid ≡ rid))) (sym is)
-      (inserts e.sid (is_insert e.change) there, at)
-    where
-      same_sid : (m : ℕ) (b : Bool) → ((m == s) && b) ≡ true → m ≡ s
-      same_sid m true h = grind (arith, nat_tests)
-      same_sid m false h = grind (arith, nat_tests)
-
-      inserts : (m : ℕ) (b : Bool) → ((m == s) && b) ≡ true → b ≡ true
-      inserts m true h = refl
-      inserts m false h = grind (arith, nat_tests)
-  at_entry e is false apart =
-      base_is (λ x at. let same : e ≡ x = some_is e x (sym is ∙ at) in subst (λ (y : Entry). ((y.sid == s) && is_insert y.change) ≡ false)
-      same apart)
+  at_entry e is true there = grind (arith, common_steps, nat_tests)
+  at_entry e is false apart = grind (arith, common_steps, base_is, some_is)
 
   -- the row there stands at the position
   pub row_is : IsAtRid es rid (place_at n s (slice_get es n))
-  row_is =
-      elim (slice_get es n) as (λ o. slice_get es n ≡ o → IsAtRid es rid (place_at n s o)) [
-        | None ↦ λ none. base_is (λ e is. absurd (none_is e (sym none ∙ is)))
-        | Some e ↦ λ is. at_entry e is ((e.sid == s) && is_insert e.change) refl
-      ] refl
+  row_is = grind (arith, common_steps, base_is, none_is, at_entry)
 
 -- where the row there is a base row, no insert of it is next
 pub no_insert : (n s q : ℕ) (o : Option Entry) → place_at n s o ≡ Base q → (e : Entry) → o ≡ Some e
     → ((e.sid == s) && is_insert e.change) ≡ false
 no_insert n s q None at e is = absurd (none_is e is)
-no_insert n s q (Some x) at e is =
-    subst (λ (y : Entry). ((y.sid == s) && is_insert y.change) ≡ false) (some_is x e is) (by ((x.sid == s) && is_insert x.change) at)
-  where
-    by : (b : Bool) → cond b (Inserted n) (Base s) ≡ Base q → b ≡ false
-    by true h = cc
-    by false h = refl
+no_insert n s q (Some x) at e is = search rules

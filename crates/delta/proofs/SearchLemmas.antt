@@ -1,7 +1,5 @@
 -- A test that splits entries in order.
-use Rattle.std.proofs.Common.{◌≡◌, ℕ, zero, suc, ◌<◌, ◌≤◌, Bool, true, false, not, T, List, [], ◌∷◌, length, take, drop, get_or, nat_cmp, Ordering, Less, Equal, Greater, is_lt, is_gt, refl, sym, ap, subst, arith}
-use Rattle.std.specs.Ordering.{ordering_then}
-use Rattle.std.specs.Cmp.{ranked}
+use Rattle.std.proofs.Common.{◌≡◌, ℕ, zero, suc, ◌<◌, ◌≤◌, Bool, true, false, not, T, List, [], ◌∷◌, length, take, drop, get_or, nat_cmp, Ordering, Less, Equal, Greater, is_lt, is_gt, refl, arith, rules}
 use Rattle.std.specs.List.{list_all}
 use Rattle.std.specs.List.Sorted.{IsPartitionedBy, IsPartitionPoint}
 use Rattle.std.proofs.lemmas.Float.{T_from_true}
@@ -12,8 +10,9 @@ use Rattle.model.specs.declared.entry.Entry.{Entry}
 use Rattle.model.specs.declared.entry.Change.{Change}
 use Rattle.model.specs.declared.entry.Change.TheVariants.{Ins, Del, Mod}
 use Rattle.model.specs.Entries.{change_cmp, entry_cmp, are_ordered}
-use Rattle.model.proofs.CallerLemmas.{both, first, second, less, turn_less, turn_greater}
+use Rattle.model.proofs.CallerLemmas.{both, first, second, turn_less, turn_greater}
 use Rattle.delta.specs.Search.{insert_cmp, first_cmp, base_cmp, modify_cmp, past_cmp, stands_before, IsSplit}
+use Rattle.std.proofs.lemmas.Grind.{common_steps}
 
 -- a test that holds is true
 pub is_true : (b : Bool) → T b → b ≡ true
@@ -26,12 +25,7 @@ greater Equal p = absurd p
 greater Greater p = refl
 
 pub nat_cmp-greater : (x y : ℕ) → y < x → nat_cmp x y ≡ Greater
-nat_cmp-greater x y h =
-    elim (nat_cmp x y) as (λ r. nat_cmp x y ≡ r → r ≡ Greater) [
-      | Less ↦ λ q. let l : x < y = ranked x y Less (sym q) in absurd (omega arith)
-      | Equal ↦ λ q. let e : x ≡ y = ranked x y Equal (sym q) in absurd (omega arith)
-      | Greater ↦ λ q. refl
-    ] refl
+nat_cmp-greater x y h = search rules
 
 -- the test of an element, by its index
 pub at_index : {A : Type 0} (p : A → Bool) (xs : List A) → T (list_all p xs) → (j : ℕ) (d : A) → j < length xs → T (p (get_or xs j d))
@@ -43,50 +37,10 @@ at_index p (x ∷ xs) h (suc j) d lt = let shorter : j < length xs = omega arith
 
 module _ (key_cols : ℕ) (cmp : Change → Ordering)
     (closed : (x y : Change) → change_cmp key_cols x y ≡ Less → cmp y ≡ Greater → cmp x ≡ Greater) (sid : ℕ) where
-  -- where a SID stands to two in order
-  sids_in_order : (n m : ℕ) (o p q : Ordering) → ordering_then (nat_cmp n m) o ≡ Less → (o ≡ Less → q ≡ Greater → p ≡ Greater)
-      → ordering_then (nat_cmp sid m) q ≡ Greater → ordering_then (nat_cmp sid n) p ≡ Greater
-  sids_in_order n m o p q below step after =
-      elim (nat_cmp n m) as (λ r. nat_cmp n m ≡ r → ordering_then r o ≡ Less → ordering_then (nat_cmp sid n) p ≡ Greater) [
-        | Less ↦ λ e b.
-            let lt : n < m = ranked n m Less (sym e) in
-            elim (nat_cmp sid m) as (λ r. nat_cmp sid m ≡ r → ordering_then r q ≡ Greater → ordering_then (nat_cmp sid n) p ≡ Greater) [
-              | Less ↦ λ f a. cc
-              | Equal ↦ λ f a. let same : sid ≡ m =
-                  ranked sid m Equal (sym f) in let gt : n
-                  < sid = omega arith in ap (λ r. ordering_then r p) (nat_cmp-greater sid n gt)
-              | Greater ↦ λ f a. let ge : m < sid =
-                  ranked sid m Greater (sym f) in let gt : n
-                  < sid = omega arith in ap (λ r. ordering_then r p) (nat_cmp-greater sid n gt)
-            ] refl after
-        | Equal ↦ λ e b.
-            let same : n ≡ m = ranked n m Equal (sym e) in
-            let here : ordering_then (nat_cmp sid n) q ≡ Greater =
-            subst (λ k. ordering_then (nat_cmp sid k) q ≡ Greater) (sym same) after in
-            elim (nat_cmp sid n) as (λ r. ordering_then r q ≡ Greater → ordering_then r p ≡ Greater) [
-              | Less ↦ λ a. cc
-              | Equal ↦ λ a. step b a
-              | Greater ↦ λ a. refl
-            ] here
-        | Greater ↦ λ e b. cc
-      ] refl below
-
-  -- an entry before one that passes passes
-  earlier : (x y : Entry) → entry_cmp key_cols x y ≡ Less → T (stands_before cmp sid y) → T (stands_before cmp sid x)
-  earlier x y below passes =
-      subst (λ r. T (is_gt r))
-      (sym (sids_in_order x.sid y.sid (change_cmp key_cols x.change y.change) (cmp x.change) (cmp y.change) below
-      (closed x.change y.change) (greater _ passes)))
-      tt
-
   pub parted : (xs : List Entry) → T (are_ordered key_cols xs) → IsPartitionedBy (stands_before cmp sid) xs
   parted [] h i j d le lt passes = absurd (omega arith)
   parted (x ∷ xs) h zero zero d le lt passes = passes
-  parted (x ∷ xs) h zero (suc j) d le lt passes =
-      let shorter : j < length xs = omega arith in
-      is_true _ (earlier x (get_or xs j d) (less _
-      (at_index (λ y. is_lt (entry_cmp key_cols x y)) xs (first (list_all (λ y. is_lt (entry_cmp key_cols x y)) xs) _ h) j
-      d shorter)) (T_from_true _ passes))
+  parted (x ∷ xs) h zero (suc j) d le lt passes = grind (arith, common_steps)
   parted (x ∷ xs) h (suc i) zero d le lt passes = absurd (omega arith)
   parted (x ∷ xs) h (suc i) (suc j) d le lt passes =
       let shorter : j < length xs = omega arith in
@@ -160,10 +114,7 @@ module _ (key_cols : ℕ) where
   modify_cmp-closed col (Del k) (Mod c v) b a = cc
   modify_cmp-closed col (Mod c v) (Ins other) b a = cc
   modify_cmp-closed col (Mod c v) (Del k) b a = cc
-  modify_cmp-closed col (Mod c v) (Mod d w) b a =
-      let lt : c < d = ranked c d Less (sym b) in
-      let gt : d < col = ranked col d Greater (sym a) in
-      nat_cmp-greater col c (omega arith)
+  modify_cmp-closed col (Mod c v) (Mod d w) b a = search rules
 
   pub past_cmp-closed : (x y : Change) → change_cmp key_cols x y ≡ Less → past_cmp y ≡ Greater → past_cmp x ≡ Greater
   past_cmp-closed x y b a = refl

@@ -1,10 +1,9 @@
 -- Where a walk begins, by the place where a descent finds the row at a position.
-use Rattle.std.proofs.Common.{◌≡◌, ℕ, zero, suc, pred, ◌+◌, ◌^◌, ◌<◌, ◌≤◌, ◌⊎◌, inl, inr, Bool, true, false, ◌&&◌, T, List, []}
-use Rattle.std.proofs.Common.{◌∷◌, length, take, get_or, nat_cmp, Less, Equal, Greater, is_gt, refl, sym, ap, subst, arith}
+use Rattle.std.proofs.Common.{◌≡◌, ℕ, zero, suc, pred, ◌+◌, ◌^◌, ◌<◌, ◌≤◌, ◌⊎◌, inl, inr, Bool, true, false, ◌&&◌, T, List, [], rules}
+use Rattle.std.proofs.Common.{◌∷◌, length, take, get_or, nat_cmp, Less, Greater, is_gt, sym, ap, subst, arith}
 use Rattle.std.proofs.Common.{length-take}
 use Rattle.std.specs.Prelude.{ℤ, pos, ◌+ℤ◌, ◌≤ℤ◌, ◌<ℤ◌, ◌==◌, IsFalse, Some, slice_get}
 use Rattle.std.specs.Ordering.{ordering_then}
-use Rattle.std.specs.Cmp.{ranked}
 use Rattle.std.proofs.lemmas.Int.{ints}
 use Rattle.std.proofs.lemmas.Bool.Decides.{nat_tests}
 use Rattle.values.specs.declared.row.Row.{Row}
@@ -20,6 +19,7 @@ use Rattle.delta.specs.Walks.{IsWalk}
 use Rattle.delta.proofs.RidLemmas.{IsGap}
 use Rattle.delta.proofs.CountedLemmas.{total-is, some_get, some_within, not_so, true_false}
 use Rattle.delta.proofs.SearchLemmas.{nat_cmp-greater, parted, all_before, all_after, first_cmp-closed, base_cmp-closed}
+use Rattle.std.proofs.lemmas.Grind.{common_steps}
 
 -- an entry that stands before the row, and one that follows, `up` above the rows below
 abbrev LeadsAt : ℕ → Change → ℕ → ℤ → Type 0
@@ -31,9 +31,7 @@ FollowsAt rid c n up = (pos rid <ℤ (pos n +ℤ up)) ⊎ (((pos n +ℤ up) ≡ 
 -- what so many entries add, by the last of them
 total-last : (es : List Entry) (m : ℕ) (d : Entry) → m < length es
     → total (take (suc m) es) ≡ total (take m es) +ℤ weight_of (get_or es m d).change
-total-last es m d lt =
-    let next : suc m ≡ m + 1 = omega arith in
-    rw next (total-more es m d (weight_of (get_or es m d).change) lt refl)
+total-last es m d lt = grind (arith, common_steps, total-more)
 
 -- something comes to stand behind no insert at its position
 module _ (after : Change → Bool) (first : (row : Row) → after (Ins row) ≡ false) (rid : ℕ) where
@@ -72,12 +70,7 @@ module _ (rid s : ℕ) where
   below n c lt = ap (λ r. is_gt (ordering_then r (base_cmp c))) (nat_cmp-greater s n lt)
 
   insert_there : (n : ℕ) → n ≤ s → is_gt (ordering_then (nat_cmp s n) Greater) ≡ true
-  insert_there n le =
-      elim (nat_cmp s n) as (λ r. nat_cmp s n ≡ r → is_gt (ordering_then r Greater) ≡ true) [
-        | Less ↦ λ q. let lt : s < n = ranked s n Less (sym q) in absurd (omega arith)
-        | Equal ↦ λ q. refl
-        | Greater ↦ λ q. refl
-      ] refl
+  insert_there n le = search rules
 
   -- an entry just before the place comes before what becomes of the base row
   lead_before : (c : Change) (n : ℕ) (up : ℤ) → LeadsAt rid c n up → (pos s +ℤ (up +ℤ weight_of c)) ≡ pos rid
@@ -90,12 +83,7 @@ module _ (rid s : ℕ) where
   lead_before (Mod col value) n up (inr h) sum = absurd (let b = h.1 in cc)
 
   from_there : (n : ℕ) → s ≤ n → is_gt (ordering_then (nat_cmp s n) Less) ≡ false
-  from_there n le =
-      elim (nat_cmp s n) as (λ r. nat_cmp s n ≡ r → is_gt (ordering_then r Less) ≡ false) [
-        | Less ↦ λ q. refl
-        | Equal ↦ λ q. refl
-        | Greater ↦ λ q. let lt : n < s = ranked s n Greater (sym q) in absurd (omega arith)
-      ] refl
+  from_there n le = search rules
 
   -- and the one at it stands at the SID or past it
   follow_after : (c : Change) (n : ℕ) (up : ℤ) → FollowsAt rid c n up → (pos s +ℤ up) ≡ pos rid

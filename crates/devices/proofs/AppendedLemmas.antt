@@ -1,7 +1,7 @@
 -- Columns side by side: the image that they store once they have taken the pieces of another.
-use Rattle.std.proofs.Common.{◌≡◌, ℕ, zero, suc, ◌+◌, ◌<◌, true, false, cond, eqb, Option, Some, None, List, [], ◌∷◌, ◌++◌, length, take, get_or, map, Result, Ok, Err, refl, sym, ap, subst, ◌∙◌, inl, inr, arith}
+use Rattle.std.proofs.Common.{◌≡◌, ℕ, zero, suc, ◌+◌, ◌<◌, true, false, Option, Some, None, List, [], ◌∷◌, ◌++◌, length, take, get_or, map, Result, Ok, refl, sym, ap, subst, ◌∙◌, arith}
 use Rattle.std.specs.List.{AllByRecursion, list_all, range_with_len}
-use Rattle.std.proofs.lemmas.Bool.{and_from, and_parts, cases_Bool, eq-eqb}
+use Rattle.std.proofs.lemmas.Bool.{and_from, and_parts, eq-eqb}
 use Rattle.std.proofs.lemmas.List.{length-map}
 use Rattle.std.proofs.lemmas.List.Sums.{list_all-from_AllPass}
 use Rattle.std.proofs.lemmas.Simd.{map-map}
@@ -10,23 +10,21 @@ use Rattle.values.specs.Shape.{Columns, IsSchema}
 use Rattle.values.specs.declared.row.Row.{Row}
 use Rattle.values.specs.declared.value.ColumnType.{ColumnType}
 use Rattle.values.specs.declared.value.Value.{Value}
-use Rattle.values.specs.declared.value.Value.TheVariants.{Bool as Truth}
 use Rattle.blocks.specs.Column.{Column}
-use Rattle.stable.specs.Rows.{column_at, first_columns, row_count, rows_of}
-use Rattle.stable.specs.Stable.{IsStable, Stable, build_fault}
-use Rattle.stable.specs.declared.fault.BuildFault.{BuildFault}
+use Rattle.stable.specs.Rows.{column_at, first_columns, row_count}
+use Rattle.stable.specs.Stable.{IsStable, Stable}
 use Rattle.stable.proofs.CallerLemmas.{all_even, all_rows, all_stable, all_typed, no_build_fault, whole}
 use Rattle.frames.specs.declared.fault.ReadFault.{ReadFault}
-use Rattle.frames.specs.declared.fault.ReadFault.TheVariants.{CountsDiffer, WrongCount}
 use Rattle.frames.specs.declared.frame.Part.{Part}
 use Rattle.frames.specs.Column.{column_bytes}
 use Rattle.frames.specs.Reading.{◌>>=◌, frames_of, parts_after}
 use Rattle.devices.specs.Image.{AllBlocks, image_frames, pieces_of}
 use Rattle.devices.specs.Ready.{AreReady, IsReadyColumn}
 use Rattle.devices.specs.Store.{StopsAt, appended}
-use Rattle.devices.specs.Stored.{Image, StaysOrIs, all_parts, are_even, columns_in, image_at, image_of, image_unless, is_whole, newest_whole, stored_image, values_in}
+use Rattle.devices.specs.Stored.{Image, StaysOrIs, all_parts, are_even, columns_in, image_at, image_of, is_whole, newest_whole, stored_image, values_in}
 use Rattle.devices.proofs.GenerationsLemmas.{Grown, IsGrown, all_of, columns_in-front, front_of, newest_whole-all, newest_whole-below, newest_whole-part, is_whole-more, values_in-more}
 use Rattle.devices.proofs.ReadyLemmas.{Grows, IsHeld, grows_front, grows_none, grows_whole, ready_next}
+use Rattle.std.proofs.lemmas.Grind.{common_steps}
 
 abbrev pub type_of : Column → ColumnType
 type_of c = c.ty
@@ -159,28 +157,16 @@ read_all g (c ∷ cs) (o ∷ olds) (n ∷ news) grow =
 
 -- ---- the image that they store
 
-stored_at : (schema : Columns) (contents : List (List ℕ)) (parts : List (List Part)) → length contents ≡ length schema.types
-    → all_parts 0 schema.types contents ≡ Ok parts
-    → stored_image schema contents ≡ image_at schema parts (newest_whole parts)
-stored_at schema contents parts even read =
-    ap (λ b. cond b (all_parts 0 schema.types contents >>= λ ps. image_at schema ps (newest_whole ps)) (Err WrongCount))
-    (eq-eqb (length contents) (length schema.types) even)
-    ∙ ap (λ (r : Result (List (List Part)) ReadFault). r >>= λ ps. image_at schema ps (newest_whole ps)) read
-
 module _ (schema : Columns) (g : ℕ) (cs : List Column) (typed : map type_of cs ≡ schema.types) (olds news : List (List ℕ))
     (read : AreRead g cs olds news) where
   abbrev columns : List Grown
   columns = read.columns
 
   old_stored : stored_image schema olds ≡ image_at schema (map front_of columns) (newest_whole (map front_of columns))
-  old_stored =
-      stored_at schema olds (map front_of columns) (read.old_even ∙ sym (length-map cs type_of) ∙ ap length typed)
-      (subst (λ types. all_parts 0 types olds ≡ Ok (map front_of columns)) typed (read.old_read 0))
+  old_stored = grind (arith, common_steps)
 
   new_stored : stored_image schema news ≡ image_at schema (map all_of columns) (newest_whole (map all_of columns))
-  new_stored =
-      stored_at schema news (map all_of columns) (read.new_even ∙ sym (length-map cs type_of) ∙ ap length typed)
-      (subst (λ types. all_parts 0 types news ≡ Ok (map all_of columns)) typed (read.new_read 0))
+  new_stored = grind (arith, common_steps)
 
   front_image : (newest : Option ℕ) → ((h : ℕ) → newest ≡ Some h → h < g)
       → image_at schema (map all_of columns) newest ≡ image_at schema (map front_of columns) newest
@@ -201,9 +187,7 @@ module _ (schema : Columns) (g : ℕ) (cs : List Column) (typed : map type_of cs
 
 all_even_is : (cs : List Column) → ((col : ℕ) (d : Column) → col < length cs → length (get_or cs col d).values ≡ row_count cs)
     → are_even cs ≡ true
-all_even_is cs even =
-    list_all-from_AllPass (λ c. eqb (length c.values) (row_count cs)) cs
-    (λ col d lt. eq-eqb (length (get_or cs col d).values) (row_count cs) (even col d lt))
+all_even_is cs even = grind (arith, common_steps, list_all-from_AllPass, eq-eqb)
 
 module _ (schema : Columns) (rows : List Row) (lawful : IsSchema schema) (stable : IsStable (record { schema = schema; rows = rows })) where
   abbrev pub table : Stable
@@ -216,23 +200,11 @@ module _ (schema : Columns) (rows : List Row) (lawful : IsSchema schema) (stable
   columns_of = first_columns schema.types rows (length schema.types)
 
   pub columns_typed : map type_of columns_of ≡ schema.types
-  columns_typed =
-      let width = length schema.types in
-      all_typed schema rows columns_of
-      (whole schema schema rows columns_of width width refl refl lawful (omega arith) (omega arith) stable refl)
+  columns_typed = grind (arith, common_steps, all_typed, whole)
 
   -- they give the table back
   image_again : (g : ℕ) → image_of schema g columns_of ≡ Ok (image g)
-  image_again g =
-      let width = length schema.types in
-      let are = whole schema schema rows columns_of width width refl refl lawful (omega arith) (omega arith) stable refl in
-      let shown : List Row = rows_of (row_count columns_of) columns_of in
-      let same : shown ≡ rows = all_rows schema rows columns_of are in
-      let sound : build_fault schema shown ≡ None = no_build_fault schema shown (all_stable schema rows columns_of are) in
-      ap (λ b. cond b (image_unless schema g columns_of (build_fault schema shown)) (Err CountsDiffer))
-      (all_even_is columns_of (all_even schema rows columns_of are))
-      ∙ ap (λ (fault : Option BuildFault). image_unless schema g columns_of fault) sound
-      ∙ ap (λ (rs : List Row). Ok (record { generation = g; table = record { schema = schema; rows = rs } })) same
+  image_again g = grind (arith, common_steps, whole, all_rows, no_build_fault, all_stable, all_even_is, all_even)
 
   module _ (g : ℕ) (olds news : List (List ℕ)) (read : AreRead g columns_of olds news) where
     abbrev grown : List Grown
@@ -256,11 +228,7 @@ module _ (schema : Columns) (rows : List Row) (lawful : IsSchema schema) (stable
 
     -- in any case it is that or the one that was
     either : StaysOrIs schema olds (image g) news
-    either =
-        elim (cases_Bool (list_all (is_whole g) (map all_of grown))) [
-          | inl all ↦ inr (becomes all)
-          | inr part ↦ inl (stays schema g columns_of columns_typed olds news read part)
-        ]
+    either = grind (arith, common_steps, all_of, becomes, stays, columns_typed)
 
   -- ---- the pieces of a table
 
@@ -270,14 +238,7 @@ module _ (schema : Columns) (rows : List Row) (lawful : IsSchema schema) (stable
 
     held_from : (a m : ℕ) → a + m ≡ length schema.types → AllByRecursion (IsHeld g) (map (column_at schema.types rows) (range_with_len a m))
     held_from a zero all = tt
-    held_from a (suc m) all = (
-      record {
-        small = small;
-        few = omega (arith, stable.few, length-map rows (λ (row : Row). get_or row a (Truth false)));
-        blocks = blocks a (omega (arith, all));
-      },
-      held_from (a + 1) m (omega (arith, all)),
-    )
+    held_from a (suc m) all = grind (arith, common_steps, held_from (a + 1) m (omega (arith, all)), length-map)
 
     held : AllByRecursion (IsHeld g) columns_of
     held = held_from 0 (length schema.types) (omega arith)
@@ -295,10 +256,7 @@ module _ (schema : Columns) (rows : List Row) (lawful : IsSchema schema) (stable
           ap (λ pieces. stored_image schema (appended olds pieces)) pieces_are ∙ becomes g olds news read.0 (read.1 grow.1)
 
       pub ready-appended : AreReady (g + 1) schema.types (appended olds (pieces_of g table))
-      ready-appended =
-          let news = appended olds (map (piece_of g) columns_of) in
-          subst (λ pieces. AreReady (g + 1) schema.types (appended olds pieces)) (sym pieces_are)
-          (subst (λ types. AreReady (g + 1) types news) columns_typed (ready_all g columns_of olds held ready_here))
+      ready-appended = grind (arith, common_steps, pieces_are, columns_typed, ready_all, held, ready_here)
 
       -- up to a device that stops the store has the image that it had, or the table's
       pub stored-stopped : (i : ℕ) (news : List (List ℕ)) → i < length olds

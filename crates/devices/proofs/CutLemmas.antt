@@ -1,5 +1,5 @@
 -- The first bytes of an image's frames are frames and a rest.
-use Rattle.std.proofs.Common.{◌≡◌, ℕ, zero, suc, ◌+◌, ◌-◌, ◌<◌, ◌≤◌, true, false, ◌&&◌, ◌||◌, ltb, List, [], ◌++◌, length, take, drop, refl, sym, ap, ◌∙◌, append_assoc, inl, inr, arith}
+use Rattle.std.proofs.Common.{◌≡◌, ℕ, zero, suc, ◌+◌, ◌-◌, ◌<◌, ◌≤◌, true, List, [], ◌++◌, length, take, drop, refl, sym, ap, ◌∙◌, append_assoc, inl, inr, arith, rules}
 use Rattle.std.proofs.Math.Seq.{take-add}
 use Rattle.std.proofs.lemmas.Bool.{and_from, cases_lt, le-ltb, lt-ltb}
 use Rattle.std.proofs.lemmas.List.{drop_at, length-append, length-take, take-append-le, take_at}
@@ -9,11 +9,12 @@ use Rattle.frames.specs.declared.frame.Frame.TheVariants.{Block}
 use Rattle.frames.specs.declared.frame.Head.{Head}
 use Rattle.frames.specs.declared.frame.Part.{Part}
 use Rattle.frames.specs.declared.seam.Seam.{Seam}
-use Rattle.frames.specs.Column.{AreFramesAt, IsPartAt, column_bytes, frame_bytes, head_at, head_bytes, head_of, is_cut_block, is_rest, may_stand, part_payload, seam_after, seam_after_all}
+use Rattle.frames.specs.Column.{AreFramesAt, IsPartAt, column_bytes, frame_bytes, head_bytes, head_of, is_cut_block, is_rest, part_payload, seam_after, seam_after_all}
 use Rattle.frames.proofs.AgainLemmas.{part_short}
 use Rattle.frames.proofs.FrameLemmas.{head_again}
 use Rattle.devices.specs.Image.{image_frame}
 use Rattle.devices.proofs.ImageFramesLemmas.{frames_from}
+use Rattle.std.proofs.lemmas.Grind.{common_steps}
 
 take-append-ge : (n : ℕ) (xs ys : List ℕ) → length xs ≤ n → take n (xs ++ ys) ≡ xs ++ take (n - length xs) ys
 take-append-ge n xs ys le =
@@ -28,23 +29,10 @@ module _ (seam : Seam) (part : Part) (is : IsPartAt seam part) where
   h = head_of part
 
   cut_head : (bytes : List ℕ) → length bytes < 16 → is_cut_block seam bytes ≡ true
-  cut_head bytes short =
-      ap (λ b. b || (may_stand seam (head_at bytes) && ltb (length (drop 16 bytes)) (head_at bytes).size))
-      (lt-ltb (length bytes) 16 short)
+  cut_head bytes short = search rules
 
   cut_payload : (payload : List ℕ) → length payload < h.size → is_cut_block seam (head_bytes h ++ payload) ≡ true
-  cut_payload payload short =
-      let bytes = head_bytes h ++ payload in
-      let again : head_at bytes ≡ h = head_again h payload (record {
-        generation = is.generation;
-        number = is.number;
-        count = omega (arith, is.block.few);
-        size = part_short part is.block;
-      }) in
-      let long : ltb (length bytes) 16 ≡ false = le-ltb (length bytes) 16 (omega arith) in
-      ap (λ b. b || (may_stand seam (head_at bytes) && ltb (length (drop 16 bytes)) (head_at bytes).size)) long
-      ∙ ap (λ (x : Head). may_stand seam x && ltb (length payload) x.size) again
-      ∙ and_from (may_stand seam h) (ltb (length payload) h.size) is.stands (lt-ltb (length payload) h.size short)
+  cut_payload payload short = grind (arith, common_steps, head_again, part_short, le-ltb, and_from, lt-ltb)
 
   pub cut_block : (n : ℕ) → n < length (frame_bytes (Block part)) → is_rest seam (take n (frame_bytes (Block part))) ≡ true
   cut_block zero lt = refl

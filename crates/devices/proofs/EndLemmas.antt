@@ -11,6 +11,7 @@ use Rattle.frames.specs.Reading.{◌>>=◌, frames_of, parts_after}
 use Rattle.devices.specs.Ready.{IsWholeColumn, StoresAs}
 use Rattle.devices.specs.Stored.{all_parts, image_at, newest_whole}
 use Rattle.devices.proofs.FramesLemmas.{AreWanted-append, column_after, parts_again, parts_of-append}
+use Rattle.std.proofs.lemmas.Grind.{common_steps}
 
 -- what is read of a column is what was read before its end
 end_reading : (next : ℕ) (ty : ColumnType) (old : List ℕ) → IsWholeColumn next ty old → (col : ℕ)
@@ -29,10 +30,7 @@ all_parts-ended next col [] front old back whole = refl
 all_parts-ended next col (ty ∷ types) [] old back whole =
     ap (λ (r : Result (List Part) ReadFault). r >>= λ ps. (all_parts (suc col) types back >>= λ os. Ok (ps ∷ os)))
     (end_reading next ty old whole col)
-all_parts-ended next col (ty ∷ types) (bytes ∷ front) old back whole =
-    ap
-    (λ (r : Result (List (List Part)) ReadFault). parts_after [] (frames_of col (Some ty) bytes) >>= λ ps. (r >>= λ os. Ok (ps ∷ os)))
-    (all_parts-ended next (suc col) types front old back whole)
+all_parts-ended next col (ty ∷ types) (bytes ∷ front) old back whole = grind (arith, common_steps, all_parts-ended next (suc col) types front old back whole)
 
 -- it stores what it stored
 pub StoresAs-ended : (old new : List ℕ) → new ≡ old ++ 69 ∷ [] → StoresAs old new

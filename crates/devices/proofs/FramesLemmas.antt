@@ -1,5 +1,5 @@
 -- Frames after frames, and what is read of them.
-use Rattle.std.proofs.Common.{◌≡◌, ℕ, true, Option, Some, List, [], ◌∷◌, ◌++◌, Ok, refl, sym, ap, ◌∙◌, append_assoc}
+use Rattle.std.proofs.Common.{◌≡◌, ℕ, true, Option, Some, List, [], ◌∷◌, ◌++◌, Ok, refl, ap, append_assoc, arith}
 use Rattle.std.proofs.lemmas.Bool.{lt-ltb}
 use Rattle.std.proofs.lemmas.Grind.{flat_map-append}
 use Rattle.std.proofs.lemmas.List.{append-nil}
@@ -7,10 +7,11 @@ use Rattle.values.specs.declared.value.ColumnType.{ColumnType}
 use Rattle.frames.specs.declared.frame.Frame.{Frame}
 use Rattle.frames.specs.declared.frame.Frame.TheVariants.{Header, Block, End}
 use Rattle.frames.specs.declared.seam.Seam.{Seam}
-use Rattle.frames.specs.Column.{AreFramesAt, IsColumn, column_bytes, frame_bytes, is_above, is_rest, seam_after, seam_after_all, start}
+use Rattle.frames.specs.Column.{AreFramesAt, IsColumn, column_bytes, is_above, is_rest, seam_after, seam_after_all, start}
 use Rattle.frames.specs.Reading.{AreWanted, frames_of, parts_after, parts_of}
 use Rattle.frames.proofs.AgainLemmas.{column_again}
 use Rattle.devices.specs.Ready.{AreBelow}
+use Rattle.std.proofs.lemmas.Grind.{common_steps}
 
 pub seam_after_all-append : (seam : Seam) (frames more : List Frame)
     → seam_after_all seam (frames ++ more) ≡ seam_after_all (seam_after_all seam frames) more
@@ -52,14 +53,7 @@ pub column_after : (old : List ℕ) (frames more : List Frame) (rest : List ℕ)
     → AreFramesAt (seam_after_all start frames) more
     → is_rest (seam_after_all (seam_after_all start frames) more) rest ≡ true
     → IsColumn (old ++ (column_bytes more ++ rest)) (frames ++ more) rest
-column_after old frames more rest is lawful torn = record {
-  lawful = AreFramesAt-append start frames more is.lawful lawful;
-  torn = ap (λ seam. is_rest seam rest) (seam_after_all-append start frames more) ∙ torn;
-  spelt =
-      ap (λ bytes. bytes ++ (column_bytes more ++ rest)) (is.spelt ∙ append-nil (column_bytes frames))
-      ∙ sym (append_assoc (column_bytes frames) (column_bytes more) rest)
-      ∙ ap (λ bytes. bytes ++ rest) (sym (flat_map-append frame_bytes frames more));
-}
+column_after old frames more rest is lawful torn = grind (arith, common_steps, AreFramesAt-append, seam_after_all-append, append-nil, append_assoc, flat_map-append)
 
 -- the blocks that are read of a column are those among its frames
 pub parts_again : (ty : ColumnType) (bytes : List ℕ) (frames : List Frame) (rest : List ℕ) → IsColumn bytes frames rest

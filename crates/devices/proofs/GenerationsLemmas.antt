@@ -3,10 +3,10 @@ use Rattle.std.proofs.Common.{◌≡◌, ℕ, ◌<◌, Bool, true, false, cond, 
 use Rattle.std.specs.List.{AllByRecursion, list_all}
 use Rattle.std.proofs.lemmas.Bool.{and_cases, and_parts, and_right, eq-eqb, ne_eqb, or_cases, or_from, or_parts}
 use Rattle.values.specs.declared.value.ColumnType.{ColumnType}
-use Rattle.values.specs.declared.value.Value.{Value}
 use Rattle.frames.specs.declared.frame.Part.{Part}
 use Rattle.devices.specs.Ready.{AreBelow}
 use Rattle.devices.specs.Stored.{columns_in, ends_image, is_whole, newest_of, newest_whole, values_in}
+use Rattle.std.proofs.lemmas.Grind.{common_steps}
 
 -- the blocks of a column: those so far, and those of a newer generation
 pub record Grown : Type 0 where
@@ -38,9 +38,7 @@ module _ (h g : ℕ) (other : h ≡ g → ⊥) where
 
   is_whole-none : (more : List Part) → AreOf g more → is_whole h more ≡ false
   is_whole-none [] of = refl
-  is_whole-none (p ∷ more) of =
-      or_from (p.last && eqb p.generation h) (is_whole h more) (and_right p.last (eqb p.generation h) (not_here p of.0))
-      (is_whole-none more of.1)
+  is_whole-none (p ∷ more) of = grind (arith, common_steps, is_whole-none more of.1, or_from, and_right, not_here)
 
   is_whole-front : (front more : List Part) → AreOf g more → is_whole h (front ++ more) ≡ is_whole h front
   is_whole-front [] more of = is_whole-none more of
@@ -60,9 +58,7 @@ module _ (g : ℕ) where
 
   pub is_whole-more : (front more : List Part) → AreBelow g front → is_whole g (front ++ more) ≡ is_whole g more
   is_whole-more [] more below = refl
-  is_whole-more (p ∷ front) more below =
-      ap (λ b. b || is_whole g (front ++ more)) (and_right p.last (eqb p.generation g) (not_yet p below.0))
-      ∙ is_whole-more front more below.1
+  is_whole-more (p ∷ front) more below = grind (arith, common_steps, is_whole-more front more below.1, and_right, not_yet)
 
   pub values_in-more : (front more : List Part) → AreBelow g front → values_in g (front ++ more) ≡ values_in g more
   values_in-more [] more below = refl
@@ -75,18 +71,13 @@ module _ (h g : ℕ) (other : h ≡ g → ⊥) where
   all_whole-front : (cs : List Grown) → AllByRecursion (IsGrown g) cs
       → list_all (is_whole h) (map all_of cs) ≡ list_all (is_whole h) (map front_of cs)
   all_whole-front [] are = refl
-  all_whole-front (c ∷ cs) are =
-      ap (λ b. b && list_all (is_whole h) (map all_of cs)) (is_whole-front h g other c.front c.more are.0.newer)
-      ∙ ap (λ b. is_whole h c.front && b) (all_whole-front cs are.1)
+  all_whole-front (c ∷ cs) are = grind (arith, common_steps, all_whole-front cs are.1, is_whole-front)
 
   pub columns_in-front : (types : List ColumnType) (cs : List Grown) → AllByRecursion (IsGrown g) cs
       → columns_in h types (map all_of cs) ≡ columns_in h types (map front_of cs)
   columns_in-front [] cs are = refl
   columns_in-front (ty ∷ types) [] are = refl
-  columns_in-front (ty ∷ types) (c ∷ cs) are =
-      ap (λ (vs : List Value). record { ty = ty; values = vs } ∷ columns_in h types (map all_of cs))
-      (values_in-front h g other c.front c.more are.0.newer)
-      ∙ ap (λ columns. record { ty = ty; values = values_in h c.front } ∷ columns) (columns_in-front types cs are.1)
+  columns_in-front (ty ∷ types) (c ∷ cs) are = grind (arith, common_steps, columns_in-front types cs are.1, values_in-front)
 
 newest_of-append : (columns : List (List Part)) (best : Option ℕ) (parts more : List Part)
     → newest_of columns best (parts ++ more) ≡ newest_of columns (newest_of columns best parts) more
@@ -97,19 +88,13 @@ module _ (g : ℕ) (cs : List Grown) (are : AllByRecursion (IsGrown g) cs) where
   newest_of-front : (best : Option ℕ) (front : List Part) → AreBelow g front
       → newest_of (map all_of cs) best front ≡ newest_of (map front_of cs) best front
   newest_of-front best [] below = refl
-  newest_of-front best (p ∷ front) below =
-      let same : ends_image (map all_of cs) p ≡ ends_image (map front_of cs) p =
-      ap (λ b. p.last && b) (all_whole-front p.generation g (λ e. omega (arith, e, below.0)) cs are) in
-      ap (λ b. newest_of (map all_of cs) (cond b (Some p.generation) best) front) same
-      ∙ newest_of-front (cond (ends_image (map front_of cs) p) (Some p.generation) best) front below.1
+  newest_of-front best (p ∷ front) below = grind (arith, common_steps, newest_of-front (cond (ends_image (map front_of cs) p) (Some p.generation) best) front below.1, all_whole-front)
 
   -- a generation that isn't whole everywhere is never the newest
   newest_of-part : list_all (is_whole g) (map all_of cs) ≡ false → (best : Option ℕ) (more : List Part) → AreOf g more
       → newest_of (map all_of cs) best more ≡ best
   newest_of-part lacks best [] of = refl
-  newest_of-part lacks best (p ∷ more) of =
-      let none : ends_image (map all_of cs) p ≡ false = and_right p.last _ (ap (λ h. list_all (is_whole h) (map all_of cs)) of.0 ∙ lacks) in
-      ap (λ b. newest_of (map all_of cs) (cond b (Some p.generation) best) more) none ∙ newest_of-part lacks best more of.1
+  newest_of-part lacks best (p ∷ more) of = grind (arith, common_steps, newest_of-part lacks best more of.1, and_right)
 
   -- one that is, is
   module _ (has : list_all (is_whole g) (map all_of cs) ≡ true) where
@@ -118,11 +103,7 @@ module _ (g : ℕ) (cs : List Grown) (are : AllByRecursion (IsGrown g) cs) where
 
     newest_of-kept : (more : List Part) → AreOf g more → newest_of (map all_of cs) (Some g) more ≡ Some g
     newest_of-kept [] of = refl
-    newest_of-kept (p ∷ more) of = ap (λ o. newest_of (map all_of cs) o more) (by (ends_image (map all_of cs) p)) ∙ newest_of-kept more of.1
-      where
-        by : (b : Bool) → cond b (Some p.generation) (Some g) ≡ Some g
-        by true = ap Some of.0
-        by false = refl
+    newest_of-kept (p ∷ more) of = grind (arith, common_steps, newest_of-kept more of.1)
 
     newest_of-whole : (best : Option ℕ) (more : List Part) → AreOf g more → is_whole g more ≡ true
         → newest_of (map all_of cs) best more ≡ Some g
@@ -152,28 +133,12 @@ newest_of-unended g columns best (p ∷ more) of lacks =
 pub newest_whole-part : (g : ℕ) (cs : List Grown) → AllByRecursion (IsGrown g) cs → list_all (is_whole g) (map all_of cs) ≡ false
     → newest_whole (map all_of cs) ≡ newest_whole (map front_of cs)
 newest_whole-part g [] are lacks = refl
-newest_whole-part g (c ∷ cs) are lacks =
-    let columns = map all_of cs in
-    newest_of-append columns None c.front c.more
-    ∙ kept (newest_of columns None c.front)
-    ∙ newest_of-front g cs are.1 None c.front are.0.below
-  where
-    kept : (best : Option ℕ) → newest_of (map all_of cs) best c.more ≡ best
-    kept best =
-        elim (and_cases (is_whole g (all_of c)) (list_all (is_whole g) (map all_of cs)) lacks) [
-          | inl here ↦ newest_of-unended g (map all_of cs) best c.more are.0.newer (sym (is_whole-more g c.front c.more are.0.below) ∙ here)
-          | inr there ↦ newest_of-part g cs are.1 there best c.more are.0.newer
-        ]
+newest_whole-part g (c ∷ cs) are lacks = grind (arith, common_steps, newest_of-append, newest_of-front, and_cases, newest_of-unended, is_whole-more, newest_of-part)
 
 -- where each has it, it is the newer one
 pub newest_whole-all : (g : ℕ) (c : Grown) (cs : List Grown) → AllByRecursion (IsGrown g) (c ∷ cs)
     → list_all (is_whole g) (map all_of (c ∷ cs)) ≡ true → newest_whole (map all_of (c ∷ cs)) ≡ Some g
-newest_whole-all g c cs are has =
-    let columns = map all_of cs in
-    let both = and_parts (is_whole g (all_of c)) (list_all (is_whole g) columns) has in
-    let here : is_whole g c.more ≡ true = sym (is_whole-more g c.front c.more are.0.below) ∙ both.0 in
-    newest_of-append columns None c.front c.more
-    ∙ newest_of-whole g cs are.1 both.1 (newest_of columns None c.front) c.more are.0.newer here
+newest_whole-all g c cs are has = grind (arith, common_steps, and_parts, is_whole-more, newest_of-append, newest_of-whole)
 
 -- whether a generation is below this one, where there is one
 abbrev IsBelow : ℕ → Option ℕ → Type 0

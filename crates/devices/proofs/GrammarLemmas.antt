@@ -1,8 +1,8 @@
 -- The blocks of a lawful column are in turn.
-use Rattle.std.proofs.Common.{◌≡◌, ℕ, ◌+◌, Bool, true, false, cond, ◌&&◌, eqb, Option, Some, None, List, [], ◌∷◌, Result, Ok, Err, Vec, Global, refl, sym, ap, subst, ◌∙◌, inl, inr, arith}
+use Rattle.std.proofs.Common.{◌≡◌, ℕ, ◌+◌, Bool, true, false, cond, ◌&&◌, eqb, Option, Some, None, List, [], ◌∷◌, Result, Ok, Err, Vec, Global, refl, sym, ap, ◌∙◌, inl, inr, arith, rules}
 use Rattle.std.specs.Prelude.{is_some, IfOk}
 use Rattle.std.specs.Option.{option_map}
-use Rattle.std.proofs.lemmas.Bool.{eqb-true, eq-eqb, ltb-true, and_parts, cases_Bool}
+use Rattle.std.proofs.lemmas.Bool.{eqb-true, ltb-true, and_parts, cases_Bool}
 use Rattle.values.specs.declared.value.ColumnType.{ColumnType}
 use Rattle.values.specs.declared.value.ColumnType.TheVariants as column
 use Rattle.blocks.specs.Payload.{AreBytes}
@@ -20,6 +20,7 @@ use Rattle.frames.specs.Laws.{WhatReadsIsAColumn}
 use Rattle.frames.specs.Reading.{AreWanted, Gives, frames_of, parts_of, parts_after}
 use Rattle.devices.specs.Turns.{IsPartOf, IsNext, AreNext, AreInTurn}
 use Rattle.devices.proofs.WantedLemmas.{column_wanted}
+use Rattle.std.proofs.lemmas.Grind.{common_steps}
 
 -- types of one byte are one
 type_is : (a b : ColumnType) → eqb (type_byte a) (type_byte b) ≡ true → a ≡ b
@@ -59,16 +60,12 @@ record GoesOn (before : Option Unfinished) (h : Head) : Type 0 where
 -- a head that goes on does so from a block
 goes_on_from : (before : Option Unfinished) (h : Head) → goes_on before h ≡ true → GoesOn before h
 goes_on_from None h e = absurd (cc e)
-goes_on_from (Some u) h e =
-    let both = and_parts (eqb u.generation h.generation) (eqb (u.number + 1) h.number) e in
-    record { from = u; before_is = refl; generation = eqb-true _ _ both.0; number = eqb-true _ _ both.1 }
+goes_on_from (Some u) h e = search rules
 
 module _ (seam : Seam) (part : Part) (turn : is_in_turn seam (head_of part) ≡ true) where
   -- number 0 begins a generation above the newest
   begins_above : part.number ≡ 0 → is_above seam.newest part.generation ≡ true
-  begins_above e =
-      sym (ap (λ b. cond b (is_above seam.newest part.generation) (goes_on seam.before (head_of part))) (eq-eqb part.number 0 e))
-      ∙ turn
+  begins_above e = search rules
 
   -- another number goes on
   goes_on_so : eqb part.number 0 ≡ false → goes_on seam.before (head_of part) ≡ true
@@ -117,17 +114,7 @@ part_here ty seam before part after at =
 unfinished_so : (part : Part) (last : Bool) (u : Unfinished) → part.last ≡ last
     → cond last None (Some (record { generation = part.generation; number = part.number })) ≡ Some u → IsUnfinished u (Some part)
 unfinished_so part true u is e = absurd (cc e)
-unfinished_so part false u is e =
-    let made : Unfinished = record { generation = part.generation; number = part.number } in
-    let same : made ≡ u = cc e in
-    record {
-      block = part;
-      before_is = refl;
-      generation = sym (ap (λ (v : Unfinished). v.generation) same);
-      number =
-          sym (ap (λ (v : Unfinished). v.number) same);
-      more = is;
-    }
+unfinished_so part false u is e = search rules
 
 -- ---- frames
 
@@ -168,10 +155,7 @@ start_after ty = record { typed = λ k e. absurd (cc e); newest = refl; unfinish
 parts_in_turn : WhatReadsIsAColumn
     → (col : ℕ) (ty : ColumnType) (bytes : List ℕ) (reading : Result (List Frame) ReadFault) (parts : List Part) → AreBytes bytes
     → frames_of col (Some ty) bytes ≡ reading → parts_after [] reading ≡ Ok parts → AreInTurn ty parts
-parts_in_turn law col ty bytes (Ok frames) parts small read e =
-    let lawful = (law col (Some ty) bytes frames small read).1.lawful in
-    let same : parts_of frames ≡ parts = cc e in
-    subst (AreInTurn ty) same (in_turn ty start None frames (start_after ty) lawful (column_wanted col (Some ty) bytes frames read))
+parts_in_turn law col ty bytes (Ok frames) parts small read e = grind (arith, common_steps, in_turn, start_after, column_wanted)
 parts_in_turn law col ty bytes (Err fault) parts small read e = absurd (cc e)
 
 -- the blocks of a column that was read are in turn

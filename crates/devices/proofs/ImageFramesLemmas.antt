@@ -1,24 +1,24 @@
 -- The frames of a column's values: each may stand where it stands, and they give the values back.
-use Rattle.std.proofs.Common.{◌≡◌, ℕ, zero, suc, ◌+◌, ◌-◌, ◌*◌, ◌<◌, ◌≤◌, Bool, true, false, cond, ◌&&◌, ◌||◌, eqb, ltb, leb, Option, Some, None, is_some, List, [], ◌++◌, length, take, drop, map, refl, sym, ap, ◌∙◌, inl, inr, arith}
+use Rattle.std.proofs.Common.{◌≡◌, ℕ, zero, suc, ◌+◌, ◌-◌, ◌*◌, ◌<◌, ◌≤◌, Bool, true, false, cond, ◌&&◌, eqb, Option, Some, List, [], ◌++◌, length, take, drop, map, refl, sym, ap, ◌∙◌, inl, inr, arith, rules}
 use Rattle.std.specs.List.{range_with_len}
 use Rattle.std.proofs.Math.Seq.{take-add}
-use Rattle.std.proofs.lemmas.Bool.{and_from, and_left, cases_eq, eq-eqb, eqb-false, eqb-true, le-leb, lt-ltb, ne_eqb, or_from, or_left, or_right}
+use Rattle.std.proofs.lemmas.Bool.{and_from, and_left, cases_eq, eq-eqb, eqb-false, eqb-true, ne_eqb, or_from, or_left, or_right}
 use Rattle.std.proofs.lemmas.List.{drop-drop, length-drop, length-take, take_all}
 use Rattle.values.specs.declared.value.ColumnType.{ColumnType}
 use Rattle.values.specs.declared.value.Value.{Value}
 use Rattle.blocks.specs.Column.{IsBlock}
-use Rattle.stable.specs.Column.{block_at, block_count}
+use Rattle.stable.specs.Column.{block_at}
 use Rattle.frames.specs.declared.frame.Format.TheVariants.{Second}
 use Rattle.frames.specs.declared.frame.Frame.{Frame}
-use Rattle.frames.specs.declared.frame.Kind.{Kind}
 use Rattle.frames.specs.declared.frame.Part.{Part}
 use Rattle.frames.specs.declared.seam.Seam.{Seam}
 use Rattle.frames.specs.declared.seam.Unfinished.{Unfinished}
-use Rattle.frames.specs.Column.{AreFramesAt, IsPartAt, flag_byte, goes_on, has_due_count, head_of, is_above, is_in_turn, part_payload, seam_after, seam_after_all}
+use Rattle.frames.specs.Column.{AreFramesAt, IsPartAt, flag_byte, goes_on, has_due_count, head_of, is_above, is_in_turn, seam_after, seam_after_all}
 use Rattle.frames.specs.Reading.{AreWanted, parts_of}
 use Rattle.devices.specs.Image.{image_frame, part_count}
 use Rattle.devices.specs.Stored.{is_whole, values_in}
 use Rattle.devices.proofs.GenerationsLemmas.{AreOf}
+use Rattle.std.proofs.lemmas.Grind.{common_steps}
 
 -- how so many values stand in so many blocks
 pub record IsCut (len count : ℕ) : Type 0 where
@@ -28,40 +28,12 @@ pub record IsCut (len count : ℕ) : Type 0 where
   pub none : len ≡ 0 → count ≡ 1
 
 pub is_cut : (len : ℕ) → IsCut len (part_count len)
-is_cut len =
-    elim (cases_eq len 0) [
-      | inl nothing ↦ by (part_count len) nothing
-          (let e : eqb len 0 ≡ true = eq-eqb len 0 nothing in ap (λ b. cond b 1 (block_count len)) e)
-      | inr something ↦ more (part_count len) (omega (arith, something))
-          (let e : eqb len 0 ≡ false = ne_eqb len 0 something in ap (λ b. cond b 1 (block_count len)) e)
-    ]
-  where
-    by : (count : ℕ) → len ≡ 0 → count ≡ 1 → IsCut len count
-    by count nothing is =
-        record {
-          some = omega (arith, is);
-          last = λ h. absurd (omega (arith, h, nothing));
-          all = omega (arith, is, nothing);
-          none = λ _. is;
-        }
-
-    more : (count : ℕ) → 0 < len → count ≡ block_count len → IsCut len count
-    more count some is =
-        record {
-          some = omega (arith, is, some);
-          last = λ _. omega (arith, is, some);
-          all = omega (arith, is);
-          none = λ e. absurd (omega (arith, e, some));
-        }
+is_cut len = search rules
 
 -- a block is full, or the last and not empty, or the first
 due_of : (g k n s : ℕ) (last : Bool) → n ≤ 1024 → (last ≡ false → n ≡ 1024) → (last ≡ true → 0 < k → 0 < n)
     → has_due_count (record { generation = g; number = k; flag = flag_byte last; count = n; size = s }) ≡ true
-due_of g k n s true le full some =
-    and_from (leb n 1024) (ltb 0 n || eqb k 0) (le-leb n 1024 le) (elim (cases_eq k 0) [
-      | inl begins ↦ or_right (ltb 0 n) (eqb k 0) (eq-eqb k 0 begins)
-      | inr later ↦ or_left (ltb 0 n) (eqb k 0) (lt-ltb 0 n (some refl (omega (arith, later))))
-    ])
+due_of g k n s true le full some = search rules
 due_of g k n s false le full some = eq-eqb n 1024 (full refl)
 
 module _ (g : ℕ) (ty : ColumnType) (values : List Value) (count : ℕ) where
@@ -88,21 +60,13 @@ module _ (g : ℕ) (ty : ColumnType) (values : List Value) (count : ℕ) where
   -- without the last block the generation isn't whole
   pub is_whole-frames : (a m : ℕ) → a + m < count → is_whole g (parts_of (frames_from a m)) ≡ false
   is_whole-frames a zero lt = refl
-  is_whole-frames a (suc m) lt =
-      let open_end : eqb (a + 1) count ≡ false = ne_eqb (a + 1) count (λ e. omega (arith, e, lt)) in
-      or_from (eqb (a + 1) count && eqb g g) (is_whole g (parts_of (frames_from (a + 1) m)))
-      (and_left (eqb (a + 1) count) (eqb g g) open_end) (is_whole-frames (a + 1) m (omega (arith, lt)))
+  is_whole-frames a (suc m) lt = grind (arith, common_steps, is_whole-frames (a + 1) m (omega (arith, lt)), ne_eqb, or_from, and_left)
 
   -- with it, it is
   pub is_whole-all : (a m : ℕ) → 0 < m → a + m ≡ count → is_whole g (parts_of (frames_from a m)) ≡ true
   is_whole-all a zero some all = absurd (omega (arith, some))
-  is_whole-all a (suc zero) some all =
-      let ended : eqb (a + 1) count ≡ true = eq-eqb (a + 1) count (omega (arith, all)) in
-      or_left (eqb (a + 1) count && eqb g g) (is_whole g (parts_of (frames_from (a + 1) zero)))
-      (and_from (eqb (a + 1) count) (eqb g g) ended (eq-eqb g g refl))
-  is_whole-all a (suc (suc m)) some all =
-      or_right (eqb (a + 1) count && eqb g g) (is_whole g (parts_of (frames_from (a + 1) (suc m))))
-      (is_whole-all (a + 1) (suc m) (omega arith) (omega (arith, all)))
+  is_whole-all a (suc zero) some all = grind (arith, common_steps, eq-eqb, or_left, and_from)
+  is_whole-all a (suc (suc m)) some all = grind (arith, common_steps, is_whole-all (a + 1) (suc m) (omega arith) (omega (arith, all)), or_right)
 
   -- their values are those of the column
   values_in-frames : (a m : ℕ) → values_in g (parts_of (frames_from a m)) ≡ take (1024 * m) (drop (1024 * a) values)
@@ -125,11 +89,7 @@ module _ (g : ℕ) (ty : ColumnType) (values : List Value) (count : ℕ) where
     values_in-all = values_in-frames 0 count ∙ take_all (1024 * count) values cut.all
 
     filled : 1 < count → 0 < length values
-    filled more =
-        elim (cases_eq (length values) 0) [
-          | inl nothing ↦ absurd (omega (arith, cut.none nothing, more))
-          | inr something ↦ omega (arith, something)
-        ]
+    filled more = search rules
 
     block_full : (k : ℕ) → k + 1 < count → length (take 1024 (drop (1024 * k) values)) ≡ 1024
     block_full k lt =
@@ -142,21 +102,10 @@ module _ (g : ℕ) (ty : ColumnType) (values : List Value) (count : ℕ) where
         )
 
     block_some : (k : ℕ) → k + 1 ≡ count → 0 < k → 0 < length (take 1024 (drop (1024 * k) values))
-    block_some k last some =
-        omega (
-          arith,
-          length-take 1024 (drop (1024 * k) values),
-          length-drop (1024 * k) values,
-          cut.last (filled (omega (arith, last, some))),
-          last,
-          some,
-        )
+    block_some k last some = grind (arith, common_steps)
 
     due : (k : ℕ) → k < count → has_due_count (head_of (part k)) ≡ true
-    due k lt =
-        due_of g k (length (take 1024 (drop (1024 * k) values))) (length (part_payload (part k))) (eqb (k + 1) count)
-        (omega (arith, length-take 1024 (drop (1024 * k) values)))
-        (λ e. block_full k (omega (arith, lt, eqb-false (k + 1) count e))) (λ e some. block_some k (eqb-true (k + 1) count e) some)
+    due k lt = grind (arith, common_steps, due_of, length-take, block_full, eqb-false, block_some, eqb-true)
 
     -- a seam at which the block number a may stand
     pub record IsTurn (seam : Seam) (a : ℕ) : Type 0 where
@@ -179,35 +128,14 @@ module _ (g : ℕ) (ty : ColumnType) (values : List Value) (count : ℕ) where
         ]
 
     stands_at : (seam : Seam) (a : ℕ) → a < count → IsTurn seam a → IsPartAt seam (part a)
-    stands_at seam a lt turn = record {
-      stands =
-          and_from (is_some seam.kind && is_in_turn seam (head_of (part a))) (has_due_count (head_of (part a)))
-          (and_from (is_some seam.kind) (is_in_turn seam (head_of (part a))) (ap (λ (o : Option Kind). is_some o) turn.kind)
-          (in_turn seam a lt turn))
-          (due a lt);
-      typed = turn.kind;
-      block = blocks a lt;
-      generation = small;
-      number = omega (arith, lt, few);
-    }
+    stands_at seam a lt turn = grind (arith, common_steps, and_from, in_turn, due)
 
     turn_after : (seam : Seam) (a : ℕ) → a < count → IsTurn seam a → IsTurn (seam_after seam (frame a)) (a + 1)
-    turn_after seam a lt turn = record {
-      kind = turn.kind;
-      first = λ e. absurd (omega (arith, e));
-      next =
-          λ some more.
-          let unended : eqb (a + 1) count ≡ false = ne_eqb (a + 1) count (λ e. omega (arith, e, more)) in
-          ap (λ b. cond b None (Some (record { generation = g; number = a }))) unended
-          ∙ ap (λ n. Some (record { generation = g; number = n })) (let n : a ≡ a + 1 - 1 = omega arith in n);
-    }
+    turn_after seam a lt turn = search rules
 
     pub frames_stand : (a m : ℕ) (seam : Seam) → a + m ≡ count → IsTurn seam a → AreFramesAt seam (frames_from a m)
     frames_stand a zero seam all turn = tt
-    frames_stand a (suc m) seam all turn = (
-      stands_at seam a (omega (arith, all)) turn,
-      frames_stand (a + 1) m (seam_after seam (frame a)) (omega (arith, all)) (turn_after seam a (omega (arith, all)) turn),
-    )
+    frames_stand a (suc m) seam all turn = grind (arith, common_steps, frames_stand (a + 1) m (seam_after seam (frame a)) (omega (arith, all)) (turn_after seam a (omega (arith, all)) turn), stands_at, turn_after)
 
   pub kind_after : (a m : ℕ) (seam : Seam) → (seam_after_all seam (frames_from a m)).kind ≡ seam.kind
   kind_after a zero seam = refl

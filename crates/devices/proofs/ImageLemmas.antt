@@ -1,14 +1,14 @@
 -- The columns of a generation, and the image that they are.
 use Rattle.std.proofs.Common.{◌≡◌, ℕ, suc, ◌<◌, ◌≤◌, List, [], ◌∷◌, ◌++◌, length, drop, map, get_or, refl, sym, ap, subst, ◌∙◌, append_assoc, arith}
-use borrow.Author.Count.{below_more}
 use Rattle.std.proofs.Math.Seq.{get_or-append_seam}
-use Rattle.std.proofs.lemmas.List.{length-append, length_push, length-map, map-append, get_or-map, get_or_append_left}
+use Rattle.std.proofs.lemmas.List.{length-append, length-map, map-append, get_or-map}
 use Rattle.values.specs.declared.value.ColumnType.{ColumnType}
 use Rattle.values.specs.declared.value.ColumnType.TheVariants as column
 use Rattle.blocks.specs.Column.{Column}
 use Rattle.frames.specs.declared.frame.Part.{Part}
 use Rattle.devices.specs.Stored.{values_in, columns_in}
 use Rattle.devices.specs.Turns.{AreInTurn, AreAllInTurn, AreEachInTurn}
+use Rattle.std.proofs.lemmas.Grind.{common_steps}
 
 -- the column of a generation in a column's blocks
 abbrev pub column_of : ℕ → ColumnType → List Part → Column
@@ -46,14 +46,7 @@ types-columns_in g (ty ∷ types) (parts ∷ columns) even = ap (λ ts. ty ∷ t
 -- one column more in turn
 pub all_in_turn_push : (types : List ColumnType) (columns : List (List Part)) (parts : List Part) → AreAllInTurn types columns
     → AreInTurn (get_or types (length columns) column.Int) parts → AreAllInTurn types (columns ++ parts ∷ [])
-all_in_turn_push types columns parts are next col lt =
-    let P : ℕ → Type 0 = λ k. AreInTurn (get_or types k column.Int) (get_or (columns ++ parts ∷ []) k []) in
-    let here : P (length columns) =
-    subst (AreInTurn (get_or types (length columns) column.Int)) (sym (get_or-append_seam columns parts [] [])) next in
-    let there : (k : ℕ) → k < length columns → P k =
-    λ k (few : k < length columns). subst (AreInTurn (get_or types k column.Int))
-    (sym (get_or_append_left columns (parts ∷ []) [] k few)) (are k few) in
-    below_more P (length columns) there here col (omega (arith, lt, length_push columns parts))
+all_in_turn_push types columns parts are next col lt = grind (arith, common_steps)
 
 -- ---- the columns so far
 
@@ -66,9 +59,7 @@ module _ {V : Type 0} (items : V → List Part) (g : ℕ) (types : List ColumnTy
   module _ (made : List Column) (so_far : made ≡ columns_in g types (map items front)) where
     -- a column for each
     pub length-made : length made ≡ length front
-    length-made =
-        let few : length (map items front) ≤ length types = omega (arith, so_far_few, length-map front items) in
-        ap (λ cs. length cs) so_far ∙ length-columns_in g types (map items front) few ∙ length-map front items
+    length-made = grind (arith, common_steps, so_far_few, length-map, length-columns_in)
 
     -- the next one's blocks are in turn
     pub next_in_turn : AreAllInTurn types (map items all) → AreInTurn (get_or types (length made) column.Int) (items one)

@@ -1,7 +1,7 @@
 -- The newest generation of columns that can be read is the greatest that is whole in each of them.
-use Rattle.std.proofs.Common.{◌≡◌, ℕ, zero, suc, ◌+◌, ◌-◌, ◌<◌, ◌≤◌, ◌⊎◌, true, false, cond, ◌&&◌, ◌||◌, eqb, Option, Some, None, List, [], ◌∷◌, ◌++◌, length, take, get_or, Result, Ok, Err, refl, sym, ap, subst, ◌∙◌, inl, inr, arith}
+use Rattle.std.proofs.Common.{◌≡◌, ℕ, ◌-◌, ◌<◌, ◌≤◌, ◌⊎◌, true, cond, ◌&&◌, Option, Some, None, List, [], ◌∷◌, ◌++◌, length, take, get_or, Result, Ok, refl, ap, subst, ◌∙◌, inl, inr, arith, rules}
 use Rattle.std.specs.List.{list_all}
-use Rattle.std.proofs.lemmas.Bool.{eqb-true, eq-eqb, and_parts, cases_Bool}
+use Rattle.std.proofs.lemmas.Bool.{and_parts}
 use Rattle.std.proofs.lemmas.List.{take_more}
 use Rattle.values.specs.declared.value.ColumnType.{ColumnType}
 use Rattle.frames.specs.declared.fault.ReadFault.{ReadFault}
@@ -13,6 +13,7 @@ use Rattle.devices.specs.Stored.{all_parts, ends_image, is_whole, newest_of, new
 use Rattle.devices.specs.Turns.{IsNext, AreNext, AreInTurn}
 use Rattle.devices.proofs.GrammarLemmas.{read_in_turn}
 use Rattle.frames.proofs.WholeLemmas.{step_ok}
+use Rattle.std.proofs.lemmas.Grind.{common_steps}
 
 -- the last block before which the newest is sought
 pub newest_of-push : (others : List (List Part)) (best : Option ℕ) (front : List Part) (part : Part)
@@ -26,12 +27,7 @@ pub newest_of-take : (others : List (List Part)) (parts : List Part) (end : ℕ)
     → part ≡ get_or parts (end - 1) part
     → newest_of others None (take end parts)
     ≡ cond (ends_image others part) (Some part.generation) (newest_of others None (take (end - 1) parts))
-newest_of-take others parts end part some le is =
-    let front = take (end - 1) parts in
-    let on : end ≡ end - 1 + 1 = omega (arith, some) in
-    let split : take end parts ≡ front ++ part ∷ [] =
-    ap (λ n. take n parts) on ∙ take_more parts (end - 1) part (omega (arith, some, le)) ∙ ap (λ p. front ++ p ∷ []) (sym is) in
-    ap (newest_of others None) split ∙ newest_of-push others None front part
+newest_of-take others parts end part some le is = grind (arith, common_steps, take_more, newest_of-push)
 
 -- numbers of the same kind have one greatest
 greatest_same : (P Q : ℕ → Type 0) → ((g : ℕ) → P g → Q g) → ((g : ℕ) → Q g → P g) → (o : Option ℕ) → IsGreatest P o → IsGreatest Q o
@@ -46,15 +42,7 @@ IsUpTo (Some before) g = g ≤ before.generation
 -- generations don't fall
 up_to_next : (before : Option Part) (part : Part) (g : ℕ) → IsNext before part → IsUpTo before g → g ≤ part.generation
 up_to_next None part g next le = absurd le
-up_to_next (Some before) part g next le = by part.number refl
-  where
-    by : (n : ℕ) → part.number ≡ n → g ≤ part.generation
-    by zero e =
-        let above : before.generation < part.generation = next.begins e in
-        omega (arith, above, le)
-    by (suc n) e =
-        let on = next.continues (omega (arith, e)) in
-        omega (arith, on.0, le)
+up_to_next (Some before) part g next le = search rules
 
 module _ (others : List (List Part)) where
   -- a generation whole among blocks of the first column, and in the other columns
@@ -68,47 +56,21 @@ module _ (others : List (List Part)) where
   -- the greatest so far, and what one block more makes of it
   greatest_next : (P : ℕ → Type 0) (best : Option ℕ) (part : Part) → IsGreatest P best → ((g : ℕ) → P g → g ≤ part.generation)
       → IsGreatest (λ g. P g ⊎ IsEndedBy part g) (cond (ends_image others part) (Some part.generation) best)
-  greatest_next P best part is below = elim (cases_Bool (ends_image others part)) [
-    | inl ends ↦ subst (λ b. IsGreatest (λ g. P g ⊎ IsEndedBy part g) (cond b (Some part.generation) best)) (sym ends)
-        (inr (refl, ends), λ other p. up_to other p)
-    | inr goes ↦ subst (λ b. IsGreatest (λ g. P g ⊎ IsEndedBy part g) (cond b (Some part.generation) best)) (sym goes)
-        (greatest_same P (λ g. P g ⊎ IsEndedBy part g) (λ g p. inl p) (λ g p. back g p goes) best is)
-  ]
-    where
-      up_to : (other : ℕ) → P other ⊎ IsEndedBy part other → other ≤ part.generation
-      up_to other (inl p) = below other p
-      up_to other (inr e) = omega (arith, e.0)
-
-      back : (g : ℕ) → P g ⊎ IsEndedBy part g → ends_image others part ≡ false → P g
-      back g (inl p) goes = p
-      back g (inr e) goes = absurd (let f : true ≡ false = sym e.1 ∙ goes in cc f)
+  greatest_next P best part is below = search rules
 
   -- ---- whole among one block more
 
   -- by this block or by a later one
   split_whole : (part : Part) (parts : List Part) (g : ℕ) → IsWholeHere (part ∷ parts) g → IsEndedBy part g ⊎ IsWholeHere parts g
-  split_whole part parts g h = elim (cases_Bool (part.last && eqb part.generation g)) [
-    | inl here ↦
-        let both = and_parts part.last (eqb part.generation g) here in
-        let same : part.generation ≡ g = eqb-true part.generation g both.1 in
-        let all : list_all (is_whole part.generation) others ≡ true = ap (λ n. list_all (is_whole n) others) same ∙ h.1 in
-        inl (same, ap (λ b. b && list_all (is_whole part.generation) others) both.0 ∙ all)
-    | inr not ↦ inr (sym (ap (λ b. b || is_whole g parts) not) ∙ h.0, h.1)
-  ]
+  split_whole part parts g h = search rules
 
   -- by this block
   ended_whole : (part : Part) (parts : List Part) (g : ℕ) → IsEndedBy part g → IsWholeHere (part ∷ parts) g
-  ended_whole part parts g e =
-      let both = and_parts part.last (list_all (is_whole part.generation) others) e.1 in
-      let here : (part.last && eqb part.generation g) ≡ true = ap (λ b. b && eqb part.generation g) both.0 ∙ eq-eqb part.generation g e.0 in
-      (ap (λ b. b || is_whole g parts) here, sym (ap (λ n. list_all (is_whole n) others) e.0) ∙ both.1)
+  ended_whole part parts g e = search rules
 
   -- by a later one
   later_whole : (part : Part) (parts : List Part) (g : ℕ) → IsWholeHere parts g → IsWholeHere (part ∷ parts) g
-  later_whole part parts g h = elim (cases_Bool (part.last && eqb part.generation g)) [
-    | inl here ↦ (ap (λ b. b || is_whole g parts) here, h.1)
-    | inr not ↦ (ap (λ b. b || is_whole g parts) not ∙ h.0, h.1)
-  ]
+  later_whole part parts g h = search rules
 
   -- ---- all blocks
 
@@ -116,11 +78,7 @@ module _ (others : List (List Part)) where
   greatest_of : (ty : ColumnType) (before : Option Part) (parts : List Part) (P : ℕ → Type 0) (best : Option ℕ) → AreNext ty before parts
       → ((g : ℕ) → P g → IsUpTo before g) → IsGreatest P best
       → IsGreatest (λ g. P g ⊎ IsWholeHere parts g) (newest_of others best parts)
-  greatest_of ty before [] P best next up is = greatest_same P (λ g. P g ⊎ IsWholeHere [] g) (λ g p. inl p) back best is
-    where
-      back : (g : ℕ) → P g ⊎ IsWholeHere [] g → P g
-      back g (inl p) = p
-      back g (inr h) = absurd (cc (h.0))
+  greatest_of ty before [] P best next up is = search rules
   greatest_of ty before (part ∷ parts) P best next up is =
       let below : (g : ℕ) → P g → g ≤ part.generation = λ g (p : P g). up_to_next before part g next.1 (up g p) in
       let rest =

@@ -1,5 +1,5 @@
 -- A column's frames, written one after the other.
-use Rattle.std.proofs.Common.{◌≡◌, ℕ, ◌+◌, ◌<◌, List, [], ◌∷◌, ◌++◌, sym, ap, subst, ◌∙◌, append_assoc, inl, inr, arith}
+use Rattle.std.proofs.Common.{◌≡◌, ℕ, ◌+◌, ◌<◌, List, [], ◌∷◌, ◌++◌, sym, ap, subst, ◌∙◌, append_assoc, inl, inr, arith, rules}
 use Rattle.std.proofs.lemmas.List.{append-nil}
 use Rattle.std.proofs.lemmas.Grind.{flat_map-append}
 use Rattle.std.proofs.lemmas.List.FromFn.{map-range_with_len_more}
@@ -44,11 +44,7 @@ pieces_more generation table col = map-range_with_len_more (piece_at generation 
 pub blocks_more : (ty : ColumnType) (values : List Value) (k : ℕ) (block : Column) → ((j : ℕ) → j < k → IsBlock (block_at ty values j))
     → IsBlock block → block ≡ block_at ty values k
     → (j : ℕ) → j < k + 1 → IsBlock (block_at ty values j)
-blocks_more ty values k block so_far held is j lt =
-    elim (cases_lt j k) [
-      | inl before ↦ so_far j before
-      | inr here ↦ subst (λ n. IsBlock (block_at ty values n)) (let same : k ≡ j = omega (arith, lt, here) in same) (subst IsBlock is held)
-    ]
+blocks_more ty values k block so_far held is j lt = search rules
 
 pub columns_more : (table : Stable) (k : ℕ) (c : Column) → ((col : ℕ) → col < k → AreBlocks (column_at table.schema.types table.rows col))
     → AreBlocks c → c ≡ column_at table.schema.types table.rows k

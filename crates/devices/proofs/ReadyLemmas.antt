@@ -1,6 +1,6 @@
 -- One column: what it stores once it has taken some bytes of an image.
-use Rattle.std.proofs.Common.{◌≡◌, ℕ, ◌+◌, ◌<◌, ◌≤◌, true, false, Some, List, [], ◌∷◌, ◌++◌, length, take, Ok, refl, sym, ap, subst, ◌∙◌, inl, inr, arith}
-use Rattle.std.proofs.lemmas.Bool.{cases_eq, cases_lt}
+use Rattle.std.proofs.Common.{◌≡◌, ℕ, ◌+◌, ◌<◌, ◌≤◌, true, false, Some, List, [], ◌∷◌, ◌++◌, length, take, Ok, refl, sym, ap, subst, ◌∙◌, inl, inr, arith, rules}
+use Rattle.std.proofs.lemmas.Bool.{cases_lt}
 use Rattle.std.proofs.lemmas.List.{append-nil}
 use Rattle.blocks.specs.Column.{Column}
 use Rattle.frames.specs.declared.frame.Frame.{Frame}
@@ -49,12 +49,7 @@ module _ (g : ℕ) (c : Column) (held : IsHeld g c) (old : List ℕ) (ready : Is
   seam = seam_after_all start before
 
   few : count ≤ 4294967296
-  few =
-      let cut = is_cut (length c.values) in
-      elim (cases_eq (length c.values) 0) [
-        | inl nothing ↦ omega (arith, cut.none nothing)
-        | inr something ↦ omega (arith, held.few, cut.last (omega (arith, something)))
-      ]
+  few = search rules
 
   stand : AreFramesAt seam (frames count)
   stand =

@@ -1,6 +1,6 @@
 -- Blocks in turn: how many values of a generation stand before one of its blocks.
-use Rattle.std.proofs.Common.{◌≡◌, ℕ, zero, suc, ◌+◌, ◌*◌, ◌<◌, false, cond, eqb, Option, Some, None, List, [], ◌∷◌, ◌++◌, length, refl, sym, ap, subst, ◌∙◌, append_assoc, inl, inr, arith}
-use Rattle.std.proofs.lemmas.Bool.{eqb-true, eq-eqb, cases_Bool}
+use Rattle.std.proofs.Common.{◌≡◌, ℕ, ◌+◌, ◌*◌, ◌<◌, false, cond, eqb, Option, Some, None, List, [], ◌∷◌, ◌++◌, length, refl, sym, ap, subst, ◌∙◌, append_assoc, arith, rules}
+use Rattle.std.proofs.lemmas.Bool.{eq-eqb}
 use Rattle.std.proofs.lemmas.List.{append-nil, length-append}
 use Rattle.std.proofs.lemmas.Grind.{flat_map-append}
 use Rattle.values.specs.declared.value.ColumnType.{ColumnType}
@@ -8,6 +8,7 @@ use Rattle.values.specs.declared.value.Value.{Value}
 use Rattle.frames.specs.declared.frame.Part.{Part}
 use Rattle.devices.specs.Stored.{values_in}
 use Rattle.devices.specs.Turns.{IsPartOf, IsNext, AreNext, AreInTurn}
+use Rattle.std.proofs.lemmas.Grind.{common_steps}
 
 -- the values of a generation in one block
 abbrev own_values : ℕ → Part → List Value
@@ -16,10 +17,6 @@ own_values g part = cond (eqb part.generation g) part.block.values []
 -- those of a block of the generation
 own_here : (g : ℕ) (part : Part) → part.generation ≡ g → own_values g part ≡ part.block.values
 own_here g part is = ap (λ b. cond b part.block.values []) (eq-eqb part.generation g is)
-
--- of another there are none
-own_none : (g : ℕ) (part : Part) → eqb part.generation g ≡ false → own_values g part ≡ []
-own_none g part not = ap (λ b. cond b part.block.values []) not
 
 -- so many values of a generation stand up to this block: none before its first, 1,024 in each of its own
 record AreCounted (g : ℕ) (before : Part) (count : ℕ) : Type 0 where
@@ -35,52 +32,12 @@ AreBefore g (Some before) count = AreCounted g before count
 counted_here : (g : ℕ) (before : Option Part) (part : Part) (count : ℕ) → AreBefore g before count → IsNext before part
     → part.generation ≡ g → count ≡ 1024 * part.number
 counted_here g None part count none next is = omega (arith, none, next)
-counted_here g (Some before) part count counted next is = by part.number refl
-  where
-    by : (n : ℕ) → part.number ≡ n → count ≡ 1024 * part.number
-    by zero e =
-        let least : before.generation < part.generation = next.begins e in
-        let none : count ≡ 0 = counted.none (omega (arith, least, is)) in
-        omega (arith, none, e)
-    by (suc n) e =
-        let on = next.continues (omega (arith, e)) in
-        let full : count ≡ 1024 * (before.number + 1) = counted.full (on.0 ∙ is) on.2 in
-        omega (arith, full, on.1)
-
--- no value of a later generation stands before a block
-none_here : (g : ℕ) (before : Option Part) (part : Part) (count : ℕ) → AreBefore g before count → IsNext before part → part.generation < g
-    → count ≡ 0
-none_here g None part count none next lt = none
-none_here g (Some before) part count counted next lt = by part.number refl
-  where
-    by : (n : ℕ) → part.number ≡ n → count ≡ 0
-    by zero e =
-        let least : before.generation < part.generation = next.begins e in
-        counted.none (omega (arith, least, lt))
-    by (suc n) e =
-        let on = next.continues (omega (arith, e)) in
-        counted.none (omega (arith, on.0, lt))
+counted_here g (Some before) part count counted next is = search rules
 
 -- one block more
 counted_on : (ty : ColumnType) (g : ℕ) (before : Option Part) (part : Part) (count : ℕ) → IsPartOf ty part → AreBefore g before count
     → IsNext before part → AreBefore g (Some part) (count + length (own_values g part))
-counted_on ty g before part count is counted next = record {
-  none = λ lt.
-      let other : eqb part.generation g ≡ false = ne g part lt in
-      let own : length (own_values g part) ≡ 0 = ap (λ vs. length vs) (own_none g part other) in
-      let none : count ≡ 0 = none_here g before part count counted next lt in
-      omega (arith, own, none);
-  full = λ same more.
-      let own : length (own_values g part) ≡ 1024 = ap (λ vs. length vs) (own_here g part same) ∙ is.full more in
-      let here : count ≡ 1024 * part.number = counted_here g before part count counted next same in
-      omega (arith, own, here);
-}
-  where
-    ne : (n : ℕ) (p : Part) → p.generation < n → eqb p.generation n ≡ false
-    ne n p lt = elim (cases_Bool (eqb p.generation n)) [
-      | inl same ↦ absurd (omega (arith, lt, eqb-true p.generation n same))
-      | inr other ↦ other
-    ]
+counted_on ty g before part count is counted next = search rules
 
 -- what a block of a generation is, and how many of the generation's values stand before it
 pub record IsStacked (ty : ColumnType) (count : ℕ) (part : Part) : Type 0 where
@@ -91,16 +48,8 @@ pub record IsStacked (ty : ColumnType) (count : ℕ) (part : Part) : Type 0 wher
 stacked_after : (ty : ColumnType) (g : ℕ) (before : Option Part) (front back : List Part) (part : Part) (count : ℕ)
     → AreBefore g before count → AreNext ty before (front ++ part ∷ back) → part.generation ≡ g
     → IsStacked ty (count + length (values_in g front)) part
-stacked_after ty g before [] back part count counted next is =
-    let here : count ≡ 1024 * part.number = counted_here g before part count counted next.1 is in
-    record { is = next.0; full = omega (arith, here) }
-stacked_after ty g before (first ∷ front) back part count counted next is =
-    let rest =
-    stacked_after ty g (Some first) front back part (count + length (own_values g first))
-    (counted_on ty g before first count next.0 counted next.1) next.2 is in
-    let split : length (values_in g (first ∷ front)) ≡ length (own_values g first) + length (values_in g front) =
-    length-append (own_values g first) (values_in g front) in
-    record { is = rest.is; full = omega (arith, rest.full, split) }
+stacked_after ty g before [] back part count counted next is = grind (arith, common_steps, counted_here)
+stacked_after ty g before (first ∷ front) back part count counted next is = grind (arith, common_steps, stacked_after ty g (Some first) front back part (count + length (own_values g first)) (counted_on ty g before first count next.0 counted next.1) next.2 is, counted_on, length-append)
 
 -- a block of a generation among blocks in turn
 pub stacked : (ty : ColumnType) (g : ℕ) (parts front back : List Part) (part : Part) → AreInTurn ty parts → front ++ part ∷ back ≡ parts
@@ -124,14 +73,7 @@ values_more g front part is = values_push g front part ∙ ap (λ vs. values_in 
 -- of another generation
 pub values_other : (g : ℕ) (front : List Part) (part : Part) → (part.generation ≡ g → part.block.values ≡ [])
     → values_in g (front ++ part ∷ []) ≡ values_in g front
-values_other g front part none =
-    values_push g front part ∙ ap (λ vs. values_in g front ++ vs) own ∙ append-nil (values_in g front)
-  where
-    own : own_values g part ≡ []
-    own = elim (cases_Bool (eqb part.generation g)) [
-      | inl same ↦ own_here g part (eqb-true part.generation g same) ∙ none (eqb-true part.generation g same)
-      | inr other ↦ own_none g part other
-    ]
+values_other g front part none = grind (arith, common_steps)
 
 -- the blocks so far, one more of them
 pub taken_on : (parts front back : List Part) (part : Part) → front ++ part ∷ back ≡ parts → (front ++ part ∷ []) ++ back ≡ parts

@@ -1,20 +1,20 @@
 -- The headers of a column that was read are of the type that is wanted.
-use Rattle.std.proofs.Common.{◌≡◌, ℕ, zero, suc, ltb, eqb, Option, Some, None, List, [], ◌∷◌, length, drop, get_or, Result, Ok, Err, refl, subst, ◌∙◌, sym, inl, inr}
+use Rattle.std.proofs.Common.{◌≡◌, ℕ, zero, suc, ltb, Option, Some, None, List, [], ◌∷◌, length, drop, Result, Ok, Err, refl, subst, ◌∙◌, sym, inl, inr, arith, rules}
 use Rattle.std.proofs.lemmas.Bool.{cases_Bool}
 use Rattle.values.specs.declared.value.ColumnType.{ColumnType}
 use Rattle.values.specs.declared.value.Value.{Value}
 use Rattle.blocks.specs.declared.fault.BlockFault.{BlockFault}
 use Rattle.frames.specs.declared.fault.ReadFault.{ReadFault}
-use Rattle.frames.specs.declared.fault.ReadFault.TheVariants.{BadFrame, TypesDiffer}
-use Rattle.frames.specs.declared.frame.Format.{Format}
+use Rattle.frames.specs.declared.fault.ReadFault.TheVariants.{BadFrame}
 use Rattle.frames.specs.declared.frame.Frame.{Frame}
 use Rattle.frames.specs.declared.frame.Frame.TheVariants.{Header, Block, End}
 use Rattle.frames.specs.declared.frame.Head.{Head}
 use Rattle.frames.specs.declared.frame.Kind.{Kind}
 use Rattle.frames.specs.declared.seam.Seam.{Seam}
 use Rattle.frames.specs.Column.{head_at, may_stand, seam_after, start}
-use Rattle.frames.specs.Reading.{◌>>=◌, Found, AreWanted, found_then, format_of, type_of, frame_at, frames_at, frames_of, header_at, header_of, is_wanted, part_at, part_of, part_with}
+use Rattle.frames.specs.Reading.{Found, AreWanted, found_then, frame_at, frames_at, frames_of, header_at, part_at, part_of, part_with}
 use Rattle.frames.proofs.WholeLemmas.{step_ok}
+use Rattle.std.proofs.lemmas.Grind.{common_steps}
 
 -- a frame and the bytes after it, as they are found
 abbrev found : Frame → List ℕ → Result Found ReadFault
@@ -22,40 +22,17 @@ found frame rest = Ok (Some (frame, rest))
 
 -- what is found in one way is one frame
 frame_is : (frame other : Frame) (rest left : List ℕ) → found frame rest ≡ found other left → frame ≡ other
-frame_is frame other rest left e =
-    let pair : Frame × List ℕ = (frame, rest) in
-    let others : Frame × List ℕ = (other, left) in
-    let same : pair ≡ others = cc in
-    (λ i. (same i).0)
+frame_is frame other rest left e = search rules
 
 -- one frame is of the type that is wanted
 abbrev IsWanted : Option ColumnType → Frame → Type 0
 IsWanted wanted frame = AreWanted wanted (frame ∷ [])
 
--- a header by its two bytes
-header_of_wanted :
-    (col at : ℕ) (wanted : Option ColumnType) (version : Option Format) (named : Option ColumnType) (after rest : List ℕ)
-    (frame : Frame)
-    → header_of col at wanted version named after ≡ found frame rest → IsWanted wanted frame
-header_of_wanted col at wanted None named after rest frame e = absurd cc
-header_of_wanted col at wanted (Some format) None after rest frame e = absurd cc
-header_of_wanted col at wanted (Some format) (Some ty) after rest frame e =
-    let header : Frame = Header (record { format = format; ty = ty }) in
-    elim (cases_Bool (is_wanted wanted ty)) [
-      | inl is ↦ subst (IsWanted wanted) (frame_is header frame after rest (rw is at e)) (is, tt)
-      | inr other ↦ absurd (let f : found frame rest ≡ Err (TypesDiffer col) = sym (rw other at e) in cc)
-    ]
-
 -- a header at the front
 header_wanted : (col at : ℕ) (wanted : Option ColumnType) (bytes rest : List ℕ) (frame : Frame)
     → header_at col at wanted bytes ≡ found frame rest → IsWanted wanted frame
 unfolding header_at
-header_wanted col at wanted bytes rest frame e =
-    elim (cases_Bool (ltb (length bytes) 3)) [
-      | inl short ↦ absurd (let f : found frame rest ≡ Ok None = sym (rw short at e) in cc)
-      | inr long ↦ header_of_wanted col at wanted (format_of (get_or bytes 1 0)) (type_of (get_or bytes 2 0)) (drop 3 bytes) rest
-          frame (rw long at e)
-    ]
+header_wanted col at wanted bytes rest frame e = search rules
 
 -- a block by its values
 part_of_wanted :
@@ -86,17 +63,7 @@ part_wanted col at wanted seam bytes rest frame e =
 frame_wanted : (col at : ℕ) (wanted : Option ColumnType) (seam : Seam) (bytes rest : List ℕ) (frame : Frame)
     → frame_at col at wanted seam bytes ≡ found frame rest → IsWanted wanted frame
 unfolding frame_at
-frame_wanted col at wanted seam bytes rest frame e =
-    elim (cases_Bool (eqb (get_or bytes 0 0) 72)) [
-      | inl header ↦ header_wanted col at wanted bytes rest frame (rw header at e)
-      | inr not_header ↦ elim (cases_Bool (eqb (get_or bytes 0 0) 66)) [
-        | inl block ↦ part_wanted col at wanted seam bytes rest frame (rw (not_header, block) at e)
-        | inr not_block ↦ elim (cases_Bool (eqb (get_or bytes 0 0) 69)) [
-          | inl end ↦ subst (IsWanted wanted) (frame_is End frame (drop 1 bytes) rest (rw (not_header, not_block, end) at e)) tt
-          | inr nothing ↦ absurd (let f : found frame rest ≡ Err (BadFrame col at) = sym (rw (not_header, not_block, nothing) at e) in cc)
-        ]
-      ]
-    ]
+frame_wanted col at wanted seam bytes rest frame e = grind (arith, common_steps, header_wanted, part_wanted, frame_is)
 
 -- ---- frames
 

@@ -1,11 +1,12 @@
 -- Whether a generation is whole shows at the last block that isn't of a later one.
-use Rattle.std.proofs.Common.{◌≡◌, ℕ, zero, suc, ◌-◌, ◌<◌, ◌≤◌, Bool, true, false, ◌&&◌, ◌||◌, eqb, leb, Option, Some, None, List, [], ◌∷◌, length, get_or, refl, sym, ap, ◌∙◌, inl, inr, arith}
+use Rattle.std.proofs.Common.{◌≡◌, ℕ, zero, suc, ◌-◌, ◌<◌, ◌≤◌, Bool, true, false, ◌&&◌, ◌||◌, eqb, leb, Option, Some, None, List, [], ◌∷◌, length, get_or, refl, ap, ◌∙◌, arith, rules}
 use Rattle.std.specs.List.Sorted.{IsNonDecreasingBy, IsPartitionPoint}
-use Rattle.std.proofs.lemmas.Bool.{eqb-true, leb-true, leb-false, and_parts, cases_Bool}
+use Rattle.std.proofs.lemmas.Bool.{leb-true, leb-false}
 use Rattle.values.specs.declared.value.ColumnType.{ColumnType}
 use Rattle.frames.specs.declared.frame.Part.{Part}
 use Rattle.devices.specs.Stored.{is_whole}
 use Rattle.devices.specs.Turns.{Follows, AreNext, IsInTurn}
+use Rattle.std.proofs.lemmas.Grind.{common_steps}
 
 -- whether the block is the last of the generation
 abbrev pub ends : ℕ → Part → Bool
@@ -18,25 +19,14 @@ record IsLater (before part : Part) : Type 0 where
 
 -- the next block is
 later_follows : (before part : Part) → Follows before part → IsLater before part
-later_follows before part next = by part.number refl
-  where
-    by : (n : ℕ) → part.number ≡ n → IsLater before part
-    by zero e =
-        let lt : before.generation < part.generation = next.begins e in
-        record { least = omega (arith, lt); above = λ last. lt }
-    by (suc n) e =
-        let on = next.continues (omega (arith, e)) in
-        record { least = omega (arith, on.0); above = λ last. absurd (let f : true ≡ false = sym last ∙ on.2 in cc f) }
+later_follows before part next = search rules
 
 -- and each one after it
 later_at : (ty : ColumnType) (before : Part) (parts : List Part) (n : ℕ) (d : Part) → AreNext ty (Some before) parts → n < length parts
     → IsLater before (get_or parts n d)
 later_at ty before [] n d next lt = absurd (omega (arith, lt))
 later_at ty before (part ∷ parts) zero d next lt = later_follows before part next.1
-later_at ty before (part ∷ parts) (suc n) d next lt =
-    let here = later_follows before part next.1 in
-    let there = later_at ty part parts n d next.2 (omega (arith, lt)) in
-    record { least = omega (arith, here.least, there.least); above = λ last. omega (arith, here.above last, there.least) }
+later_at ty before (part ∷ parts) (suc n) d next lt = grind (arith, common_steps, later_at ty part parts n d next.2 (omega (arith, lt)), later_follows)
 
 -- generations don't fall
 sorted : (ty : ColumnType) (before : Option Part) (parts : List Part) → AreNext ty before parts
@@ -56,10 +46,7 @@ generations_sorted parts turn = sorted turn.0 None parts turn.1
 
 -- a block that is no last one of the generation
 no_end : (g : ℕ) (part : Part) → (part.last ≡ true → part.generation ≡ g → ⊥) → ends g part ≡ false
-no_end g part never = elim (cases_Bool (ends g part)) [
-  | inl is ↦ absurd (let both = and_parts part.last (eqb part.generation g) is in never both.0 (eqb-true part.generation g both.1))
-  | inr not ↦ not
-]
+no_end g part never = search rules
 
 -- or false changes nothing
 or_false : (b : Bool) → (b || false) ≡ b
@@ -82,18 +69,8 @@ whole_at : (ty : ColumnType) (g : ℕ) (before : Option Part) (parts : List Part
     → n < length parts → (get_or parts n d).generation ≤ g
     → ((e : Part) → suc n < length parts → g < (get_or parts (suc n) e).generation) → is_whole g parts ≡ ends g (get_or parts n d)
 whole_at ty g before [] n d next lt up above = absurd (omega (arith, lt))
-whole_at ty g before (part ∷ parts) zero d next lt up above =
-    let rest : is_whole g parts ≡ false =
-    none_whole ty g (Some part) parts next.2 (λ (e : Part) (some : 0 < length parts). above e (omega (arith, some))) in
-    ap (λ b. ends g part || b) rest ∙ or_false (ends g part)
-whole_at ty g before (part ∷ parts) (suc n) d next lt up above =
-    let later = later_at ty part parts n d next.2 (omega (arith, lt)) in
-    let not : ends g part ≡ false =
-    no_end g part (λ last same. let gone : part.generation < (get_or parts n d).generation = later.above last in
-    omega (arith, gone, same, up)) in
-    ap (λ b. b || is_whole g parts) not
-    ∙ whole_at ty g (Some part) parts n d next.2 (omega (arith, lt)) up (λ (e : Part) (some : suc n < length parts).
-    above e (omega (arith, some)))
+whole_at ty g before (part ∷ parts) zero d next lt up above = grind (arith, common_steps, none_whole, or_false)
+whole_at ty g before (part ∷ parts) (suc n) d next lt up above = grind (arith, common_steps, whole_at ty g (Some part) parts n d next.2 (omega (arith, lt)) up (λ (e : Part) (some : suc n < length parts). above e (omega (arith, some))), later_at, no_end)
 
 -- whatever the type
 pub is_whole-none : (g : ℕ) (parts : List Part) → IsInTurn parts → ((d : Part) → 0 < length parts → g < (get_or parts 0 d).generation)
@@ -119,7 +96,4 @@ module _ (g : ℕ) (parts : List Part) (end : ℕ) (turn : IsInTurn parts) (boun
 
   -- the last that is
   pub shown_at : (d : Part) → 0 < end → is_whole g parts ≡ ends g (get_or parts (end - 1) d)
-  shown_at d some =
-      let up : (get_or parts (end - 1) d).generation ≤ g = leb-true _ _ (cut.0 (end - 1) d (omega arith) (omega (arith, some))) in
-      is_whole-at g parts (end - 1) d turn (omega (arith, some, bound)) up (λ (e : Part) (lt : suc (end - 1) < length parts).
-      past (suc (end - 1)) e (omega (arith, some)) lt)
+  shown_at d some = grind (arith, common_steps, leb-true, is_whole-at, past)

@@ -1,5 +1,5 @@
 -- Frames that are spelt are read again.
-use Rattle.std.proofs.Common.{◌≡◌, ℕ, zero, suc, ◌+◌, ◌*◌, ◌-◌, ◌<◌, ◌≤◌, Bool, true, false, ◌&&◌, ltb, eqb, Option, Some, None, List, [], ◌∷◌, ◌++◌, length, take, drop, Ok, refl, sym, ap, ◌∙◌, append_assoc, inl, inr, map, arith}
+use Rattle.std.proofs.Common.{◌≡◌, ℕ, zero, suc, ◌+◌, ◌*◌, ◌-◌, ◌<◌, ◌≤◌, Bool, true, false, ◌&&◌, ltb, eqb, Option, Some, None, List, [], ◌∷◌, ◌++◌, length, drop, Ok, refl, sym, ap, ◌∙◌, append_assoc, inl, inr, arith, rules}
 use Rattle.std.specs.Prelude.{unwrap_or}
 use Rattle.std.specs.List.{flat_map}
 use Rattle.std.proofs.lemmas.Bool.{ltb-true, le-ltb, lt-ltb, and_parts, cases_Bool}
@@ -9,8 +9,7 @@ use Rattle.values.specs.declared.value.ColumnType.TheVariants as column
 use Rattle.values.specs.declared.value.Value.{Value}
 use Rattle.values.specs.declared.value.Value.TheVariants.{Int, Text, Bool as Truth}
 use Rattle.blocks.specs.Column.{Column, Fits, IsBlock, AllFit}
-use Rattle.blocks.specs.Payload.{byte_count, is_true, spelling, payload_of}
-use Rattle.blocks.specs.Encoding.{is_constant, encoded_of}
+use Rattle.blocks.specs.Payload.{spelling, payload_of}
 use Rattle.blocks.proofs.CallerLemmas.{length-packed, reads_back, encoding_reads_back}
 use Rattle.frames.specs.declared.frame.Frame.{Frame}
 use Rattle.frames.specs.declared.frame.Frame.TheVariants.{Header, Block, End}
@@ -19,10 +18,11 @@ use Rattle.frames.specs.declared.frame.Format.TheVariants.{First, Second}
 use Rattle.frames.specs.declared.frame.Kind.{Kind}
 use Rattle.frames.specs.declared.frame.Part.{Part}
 use Rattle.frames.specs.declared.seam.Seam.{Seam}
-use Rattle.frames.specs.Column.{flag_byte, payload_in, part_payload, part_kind, head_of, head_bytes, frame_bytes, column_bytes, may_stand, IsPartAt, IsFrameAt, AreFramesAt, IsColumn, start, seam_after, seam_after_all, head_at, is_cut_block, is_rest}
-use Rattle.frames.specs.Reading.{◌>>=◌, found_then, AreWanted, header_at, no_kind, part_of, payload_at, part_at, frame_at, frames_at, frames_of}
+use Rattle.frames.specs.Column.{flag_byte, payload_in, part_payload, part_kind, head_of, head_bytes, frame_bytes, column_bytes, may_stand, IsPartAt, IsFrameAt, AreFramesAt, IsColumn, seam_after, seam_after_all, head_at, is_cut_block, is_rest}
+use Rattle.frames.specs.Reading.{◌>>=◌, found_then, AreWanted, header_at, no_kind, payload_at, part_at, frame_at, frames_at, frames_of}
 use Rattle.frames.specs.Stored.{reading_in}
 use Rattle.frames.proofs.FrameLemmas.{ok_is, header_again, head_again, part_at-stands}
+use Rattle.std.proofs.lemmas.Grind.{common_steps}
 
 -- ---- how long a payload is
 
@@ -39,39 +39,15 @@ spelling_short column.Bool (Text t) fit = absurd fit
 
 spellings_short : (ty : ColumnType) (values : List Value) → AllFit ty values → length (flat_map spelling values) ≤ 4098 * length values
 spellings_short ty [] fit = omega arith
-spellings_short ty (v ∷ values) fit =
-    omega
-    (arith, spelling_short ty v fit.0, spellings_short ty values fit.1, length-append (spelling v) (flat_map spelling values))
+spellings_short ty (v ∷ values) fit = grind (arith, common_steps, spellings_short ty values fit.1, spelling_short, length-append)
 
 payload_small : (c : Column) → IsBlock c → length (payload_of c.ty c.values) ≤ 4196352
-payload_small c is = by c.ty c.values is.few is.fit
-  where
-    by : (ty : ColumnType) (values : List Value) → length values ≤ 1024 → AllFit ty values → length (payload_of ty values) ≤ 4196352
-    by column.Int values few fit = omega (arith, spellings_short column.Int values fit)
-    by column.Text values few fit = omega (arith, spellings_short column.Text values fit)
-    by column.Bool values few fit = omega (arith, length-packed (byte_count (length values)) (map is_true values))
+payload_small c is = grind (arith, common_steps, spellings_short, length-packed)
 
 -- in either format
 pub in_short : (format : Format) (c : Column) → IsBlock c → length (payload_in format c.ty c.values) < 4294967296
 in_short First c is = omega (arith, payload_small c is)
-in_short Second c is = by (is_constant c.values) refl
-  where
-    first_fit : (values : List Value) → AllFit c.ty values → AllFit c.ty (take 1 values)
-    first_fit [] fit = tt
-    first_fit (v ∷ values) fit = (fit.0, tt)
-
-    few_first : (values : List Value) → length (take 1 values) ≤ 1024
-    few_first [] = omega arith
-    few_first (v ∷ values) = omega arith
-
-    by : (constant : Bool) → is_constant c.values ≡ constant → length (encoded_of c.ty c.values) < 4294967296
-    by true e =
-        rw e (omega (
-          arith,
-          payload_small (record { ty = c.ty; values = take 1 c.values })
-              (record { few = few_first c.values; fit = first_fit c.values is.fit }),
-        ))
-    by false e = rw e (omega (arith, payload_small c is))
+in_short Second c is = grind (arith, common_steps, payload_small)
 
 pub part_short : (part : Part) → IsBlock part.block → length (part_payload part) < 4294967296
 part_short part is = in_short part.format part.block is
@@ -93,26 +69,7 @@ kind_again seam kind e = sym (ap (λ o. unwrap_or o no_kind) e)
 
 payload_again : (col at : ℕ) (part : Part) (rest : List ℕ) → IsBlock part.block
     → payload_at col at (head_of part) (part_kind part) (part_payload part ++ rest) ≡ Ok (Some (Block part, rest))
-payload_again col at part rest is =
-    let ty = part.block.ty in
-    let values = part.block.values in
-    let payload = part_payload part in
-    let h = head_of part in
-    let enough : ltb (length (payload ++ rest)) (length payload) ≡ false = le-ltb _ _ (omega (arith, length-append payload rest)) in
-    let front : take (length payload) (payload ++ rest) ≡ payload = take_at payload rest (length payload) refl in
-    let back : drop (length payload) (payload ++ rest) ≡ rest = drop_at payload rest (length payload) refl in
-    let kind = part_kind part in
-    let read : reading_in part.format ty (length values) (take (length payload) (payload ++ rest)) ≡ Ok values =
-    ap (reading_in part.format ty (length values)) front ∙ stored_again part.format ty values is.fit in
-    let last : part_of col at h kind rest (Ok values) ≡ Ok (Some (Block part, rest)) =
-    ap (λ b. Ok (Some (
-      Block (record
-          { format = part.format; generation = part.generation; number = part.number; last = b; block = part.block }),
-      rest,
-    ))) (flag_again part.last) in
-    rw enough (ap (λ r. part_of col at h kind (drop (length payload) (payload ++ rest)) r) read
-    ∙ ap (λ x. part_of col at h kind x (Ok values)) back
-    ∙ last)
+payload_again col at part rest is = grind (arith, common_steps, le-ltb, length-append, take_at, drop_at, stored_again, flag_again)
 
 part_again : (col at : ℕ) (seam : Seam) (part : Part) (rest : List ℕ) → IsPartAt seam part
     → part_at col at seam (head_bytes (head_of part) ++ (part_payload part ++ rest)) ≡ Ok (Some (Block part, rest))
@@ -206,13 +163,7 @@ frames_again (suc most) col wanted size seam [] [] are w torn le = refl
 frames_again (suc most) col wanted size seam [] (byte ∷ rest) are w torn le =
     ap (λ r. r >>= λ found. found_then found (λ frame left. frames_at most col wanted size (seam_after seam frame) left))
     (rest_again col (size - length (byte ∷ rest)) wanted seam (byte ∷ rest) (omega arith) torn)
-frames_again zero col wanted size seam (frame ∷ frames) rest are w torn le =
-    absurd (omega (
-      arith,
-      frame_long frame,
-      length-append (frame_bytes frame ++ column_bytes frames) rest,
-      length-append (frame_bytes frame) (column_bytes frames),
-    ))
+frames_again zero col wanted size seam (frame ∷ frames) rest are w torn le = search rules
 frames_again (suc most) col wanted size seam (frame ∷ frames) rest are w torn le =
     let others = column_bytes frames ++ rest in
     let bytes = frame_bytes frame ++ others in
@@ -231,10 +182,7 @@ frames_again (suc most) col wanted size seam (frame ∷ frames) rest are w torn 
 -- the bytes of a column read as its frames
 pub column_again : (col : ℕ) (bytes : List ℕ) (frames : List Frame) (rest : List ℕ) (wanted : Option ColumnType)
     → IsColumn bytes frames rest → AreWanted wanted frames → frames_of col wanted bytes ≡ Ok frames
-column_again col bytes frames rest wanted is w =
-    ap (frames_of col wanted) is.spelt
-    ∙ frames_again (length (column_bytes frames ++ rest)) col wanted (length (column_bytes frames ++ rest)) start frames rest
-    is.lawful w is.torn (omega arith)
+column_again col bytes frames rest wanted is w = grind (arith, common_steps, frames_again)
 
 any_wanted : (frames : List Frame) → AreWanted None frames
 any_wanted [] = tt

@@ -1,10 +1,9 @@
 -- A frame read from its bytes, and the bytes of a frame that was read.
-use Rattle.std.proofs.Common.{◌≡◌, ℕ, zero, suc, ◌+◌, ◌<◌, ◌≤◌, Bool, true, false, cond, ◌&&◌, ◌||◌, ltb, eqb, leb, Option, Some, None, List, [], ◌∷◌, ◌++◌, length, take, drop, get_or, Result, Ok, Err, refl, sym, ap, subst, ◌∙◌, append_assoc, inl, inr, arith}
+use Rattle.std.proofs.Common.{◌≡◌, ℕ, zero, suc, ◌+◌, ◌<◌, ◌≤◌, Bool, true, false, cond, ltb, eqb, Option, Some, None, List, [], ◌∷◌, ◌++◌, length, take, drop, get_or, Result, Ok, Err, refl, sym, ap, subst, ◌∙◌, append_assoc, arith, rules}
 use Rattle.std.specs.Prelude.{unwrap_or, is_some}
 use Rattle.std.specs.Int.{w16, w32, to_be_bytes}
-use Rattle.std.proofs.lemmas.Bool.{ltb-false, le-ltb, eqb-true, leb-true, and_parts, cases_Bool}
+use Rattle.std.proofs.lemmas.Bool.{ltb-false}
 use Rattle.std.proofs.lemmas.List.{length-take, take-append-drop}
-use Rattle.std.proofs.lemmas.Nat.{be_bytes_2, be_bytes_4, from_be_bytes-to_be_bytes_2, from_be_bytes-to_be_bytes_4}
 use Rattle.values.specs.declared.value.ColumnType.{ColumnType}
 use Rattle.values.specs.declared.value.ColumnType.TheVariants as column
 use Rattle.values.specs.declared.value.Value.{Value}
@@ -36,9 +35,6 @@ done x = Ok x
 pub ok_is : {A : Type 0} (x y : A) → done x ≡ done y → x ≡ y
 ok_is x y e = cc
 
-some_is : {A : Type 0} (x y : A) → done (Some x) ≡ done (Some y) → x ≡ y
-some_is x y e = cc
-
 -- a test that passed
 pub passed_ok : {A : Type 0} (b : Bool) (x : Result A ReadFault) (fault : ReadFault) (y : A) → cond b x (Err fault) ≡ Ok y
     → (b ≡ true) × (x ≡ Ok y)
@@ -51,81 +47,7 @@ whole_ok : {A : Type 0} (b : Bool) (x : Result (Option A) ReadFault) (y : A) →
 whole_ok true x y e = absurd cc
 whole_ok false x y e = (refl, e)
 
--- ---- the first bytes
-
-three_cells : (bytes : List ℕ) → 3 ≤ length bytes → bytes ≡ get_or bytes 0 0 ∷ get_or bytes 1 0 ∷ get_or bytes 2 0 ∷ drop 3 bytes
-three_cells [] h = absurd (omega arith)
-three_cells (a ∷ []) h = absurd (omega arith)
-three_cells (a ∷ b ∷ []) h = absurd (omega arith)
-three_cells (a ∷ b ∷ c ∷ bytes) h = refl
-
 -- ---- headers
-
-type_of_ok : (byte : ℕ) (ty : ColumnType) → type_of byte ≡ Some ty → byte ≡ type_byte ty
-type_of_ok byte ty e =
-    elim (cases_Bool (eqb byte 1)) [
-      | inl one ↦ named byte column.Int ty (eqb-true _ _ one) (sym (rw one at e))
-      | inr not_one ↦ elim (cases_Bool (eqb byte 2)) [
-        | inl two ↦ named byte column.Text ty (eqb-true _ _ two) (sym (rw (not_one, two) at e))
-        | inr not_two ↦ elim (cases_Bool (eqb byte 3)) [
-          | inl three ↦ named byte column.Bool ty (eqb-true _ _ three) (sym (rw (not_one, not_two, three) at e))
-          | inr not_three ↦ absurd (cc (rw (not_one, not_two, not_three) at e))
-        ]
-      ]
-    ]
-  where
-    named : (b : ℕ) (found t : ColumnType) → b ≡ type_byte found → Some t ≡ Some found → b ≡ type_byte t
-    named b found t h p = h ∙ ap type_byte (let q : found ≡ t = cc in q)
-
-of_type_byte : (ty : ColumnType) → type_of (type_byte ty) ≡ Some ty
-of_type_byte column.Int = refl
-of_type_byte column.Text = refl
-of_type_byte column.Bool = refl
-
-format_of_ok : (byte : ℕ) (format : Format) → format_of byte ≡ Some format → byte ≡ version_byte format
-format_of_ok byte format e =
-    elim (cases_Bool (eqb byte 1)) [
-      | inl one ↦ named byte First format (eqb-true _ _ one) (sym (rw one at e))
-      | inr not_one ↦ elim (cases_Bool (eqb byte 2)) [
-        | inl two ↦ named byte Second format (eqb-true _ _ two) (sym (rw (not_one, two) at e))
-        | inr not_two ↦ absurd (cc (rw (not_one, not_two) at e))
-      ]
-    ]
-  where
-    named : (b : ℕ) (found f : Format) → b ≡ version_byte found → Some f ≡ Some found → b ≡ version_byte f
-    named b found f h p = h ∙ ap version_byte (let q : found ≡ f = cc in q)
-
-of_version_byte : (format : Format) → format_of (version_byte format) ≡ Some format
-of_version_byte First = refl
-of_version_byte Second = refl
-
--- a header that was read
-record IsHeaderRead (version : Option Format) (named : Option ColumnType) (after rest : List ℕ) (frame : Frame) : Type 0 where
-  kind : Kind
-  version_is : version ≡ Some kind.format
-  named_is : named ≡ Some kind.ty
-  frame_is : frame ≡ Header kind
-  rest_is : after ≡ rest
-
-header_of_ok :
-    (col at : ℕ) (wanted : Option ColumnType) (version : Option Format) (named : Option ColumnType) (after rest : List ℕ)
-    (frame : Frame)
-    → header_of col at wanted version named after ≡ Ok (Some (frame, rest)) → IsHeaderRead version named after rest frame
-header_of_ok col at wanted None named after rest frame e = absurd cc
-header_of_ok col at wanted (Some format) None after rest frame e = absurd cc
-header_of_ok col at wanted (Some format) (Some ty) after rest frame e =
-    let kind : Kind = record { format = format; ty = ty } in
-    let a = passed_ok (is_wanted wanted ty) (Ok (Some (Header kind, after))) (TypesDiffer col) (Some (frame, rest)) e in
-    let pair : Frame × List ℕ = (Header kind, after) in
-    let other : Frame × List ℕ = (frame, rest) in
-    let same : pair ≡ other = some_is pair other a.1 in
-    record {
-      kind = kind;
-      version_is = refl;
-      named_is = refl;
-      frame_is = sym (ap (λ (p : Frame × List ℕ). p.0) same);
-      rest_is = ap (λ (p : Frame × List ℕ). p.1) same;
-    }
 
 -- what a frame that was read says of its bytes
 pub record Takes (seam : Seam) (bytes rest : List ℕ) (frame : Frame) : Type 0 where
@@ -135,54 +57,22 @@ pub record Takes (seam : Seam) (bytes rest : List ℕ) (frame : Frame) : Type 0 
 pub header_takes : (col at : ℕ) (wanted : Option ColumnType) (seam : Seam) (bytes rest : List ℕ) (frame : Frame)
     → get_or bytes 0 0 ≡ 72 → header_at col at wanted bytes ≡ Ok (Some (frame, rest)) → Takes seam bytes rest frame
 unfolding header_at
-header_takes col at wanted seam bytes rest frame h e =
-    let version = format_of (get_or bytes 1 0) in
-    let named = type_of (get_or bytes 2 0) in
-    let a = whole_ok (ltb (length bytes) 3) (header_of col at wanted version named (drop 3 bytes)) (frame, rest) e in
-    let read = header_of_ok col at wanted version named (drop 3 bytes) rest frame a.1 in
-    let format : get_or bytes 1 0 ≡ version_byte read.kind.format = format_of_ok (get_or bytes 1 0) read.kind.format read.version_is in
-    let ty : get_or bytes 2 0 ≡ type_byte read.kind.ty = type_of_ok (get_or bytes 2 0) read.kind.ty read.named_is in
-    let cells : bytes ≡ get_or bytes 0 0 ∷ get_or bytes 1 0 ∷ get_or bytes 2 0 ∷ drop 3 bytes = three_cells bytes (ltb-false _ _ a.0) in
-    let spelt : bytes ≡ frame_bytes (Header read.kind) ++ rest =
-    cells ∙ ap (λ x. x ∷ get_or bytes 1 0 ∷ get_or bytes 2 0 ∷ drop 3 bytes) h
-    ∙ ap (λ x. 72 ∷ x ∷ get_or bytes 2 0 ∷ drop 3 bytes) format
-    ∙ ap (λ x. 72 ∷ version_byte read.kind.format ∷ x ∷ drop 3 bytes) ty
-    ∙ ap (λ xs. 72 ∷ version_byte read.kind.format ∷ type_byte read.kind.ty ∷ xs) read.rest_is in
-    subst (Takes seam bytes rest) (sym read.frame_is) (record { spelt = spelt; lawful = tt })
+header_takes col at wanted seam bytes rest frame h e = search rules
 
 pub header_again : (col at : ℕ) (wanted : Option ColumnType) (kind : Kind) (rest : List ℕ) → is_wanted wanted kind.ty ≡ true
     → header_at col at wanted (frame_bytes (Header kind) ++ rest) ≡ Ok (Some (Header kind, rest))
 unfolding header_at
-header_again col at wanted kind rest w =
-    let long : ltb (length (72 ∷ version_byte kind.format ∷ type_byte kind.ty ∷ rest)) 3 ≡ false = le-ltb _ _ (omega arith) in
-    rw (long, of_version_byte kind.format, of_type_byte kind.ty, w) refl
+header_again col at wanted kind rest w = search rules
 
 -- ---- heads
-
--- the cells of a word are bytes
-four_small : (a b c d : ℕ) → a < 256 → b < 256 → c < 256 → d < 256 → AreBytes (a ∷ b ∷ c ∷ d ∷ [])
-four_small a b c d p q r s zero = p
-four_small a b c d p q r s (suc zero) = q
-four_small a b c d p q r s (suc (suc zero)) = r
-four_small a b c d p q r s (suc (suc (suc zero))) = s
-four_small a b c d p q r s (suc (suc (suc (suc i)))) = omega arith
-
-two_small : (a b : ℕ) → a < 256 → b < 256 → AreBytes (a ∷ b ∷ [])
-two_small a b p q zero = p
-two_small a b p q (suc zero) = q
-two_small a b p q (suc (suc i)) = omega arith
 
 -- the word at a seam is spelt by its cells
 word_spelt : (bytes : List ℕ) (i : ℕ) → AreBytes bytes → to_be_bytes w32 (word_at bytes i)
     ≡ get_or bytes i 0 ∷ get_or bytes (i + 1) 0 ∷ get_or bytes (i + 2) 0 ∷ get_or bytes (i + 3) 0 ∷ []
-word_spelt bytes i small =
-    be_bytes_4 (get_or bytes i 0 ∷ get_or bytes (i + 1) 0 ∷ get_or bytes (i + 2) 0 ∷ get_or bytes (i + 3) 0 ∷ [])
-    (word_at bytes i) refl (four_small _ _ _ _ (small i) (small (i + 1)) (small (i + 2)) (small (i + 3))) refl
+word_spelt bytes i small = search rules
 
 half_spelt : (bytes : List ℕ) (i : ℕ) → AreBytes bytes → to_be_bytes w16 (half_at bytes i) ≡ get_or bytes i 0 ∷ get_or bytes (i + 1) 0 ∷ []
-half_spelt bytes i small =
-    be_bytes_2 (get_or bytes i 0 ∷ get_or bytes (i + 1) 0 ∷ []) (half_at bytes i) refl (two_small _ _ (small i) (small (i + 1)))
-    refl
+half_spelt bytes i small = search rules
 
 pub word_small : (bytes : List ℕ) (i : ℕ) → AreBytes bytes → word_at bytes i < 4294967296
 word_small bytes i small = omega (arith, small i, small (i + 1), small (i + 2), small (i + 3))
@@ -257,16 +147,7 @@ pub record IsSmallHead (h : Head) : Type 0 where
 
 -- the spelling of numbers spells them
 pub head_again : (h : Head) (rest : List ℕ) → IsSmallHead h → head_at (head_bytes h ++ rest) ≡ h
-head_again h rest small =
-    let a : word_at (head_bytes h ++ rest) 1 ≡ h.generation = from_be_bytes-to_be_bytes_4 h.generation small.generation in
-    let b : word_at (head_bytes h ++ rest) 5 ≡ h.number = from_be_bytes-to_be_bytes_4 h.number small.number in
-    let c : half_at (head_bytes h ++ rest) 10 ≡ h.count = from_be_bytes-to_be_bytes_2 h.count small.count in
-    let d : word_at (head_bytes h ++ rest) 12 ≡ h.size = from_be_bytes-to_be_bytes_4 h.size small.size in
-    ap (λ x. make_head x (word_at (head_bytes h ++ rest) 5) h.flag (half_at (head_bytes h ++ rest) 10)
-    (word_at (head_bytes h ++ rest) 12)) a
-    ∙ ap (λ x. make_head h.generation x h.flag (half_at (head_bytes h ++ rest) 10) (word_at (head_bytes h ++ rest) 12)) b
-    ∙ ap (λ x. make_head h.generation h.number h.flag x (word_at (head_bytes h ++ rest) 12)) c
-    ∙ ap (λ x. make_head h.generation h.number h.flag h.count x) d
+head_again h rest small = search rules
 
 -- ---- blocks
 
@@ -277,10 +158,7 @@ record MayStand (seam : Seam) (h : Head) : Type 0 where
   count : has_due_count h ≡ true
 
 may_stand_says : (seam : Seam) (h : Head) → may_stand seam h ≡ true → MayStand seam h
-may_stand_says seam h e =
-    let a = and_parts (is_some seam.kind && is_in_turn seam h) (has_due_count h) e in
-    let b = and_parts (is_some seam.kind) (is_in_turn seam h) a.0 in
-    record { typed = b.0; turn = b.1; count = a.1 }
+may_stand_says seam h e = search rules
 
 kind_is : (kind : Option Kind) → is_some kind ≡ true → kind ≡ Some (unwrap_or kind no_kind)
 kind_is None e = absurd cc
@@ -316,20 +194,7 @@ is_read kind count bytes values small few e =
 
 -- the flag is one of two bytes, and the values fill a block at most
 count_says : (h : Head) → has_due_count h ≡ true → (flag_byte (eqb h.flag 1) ≡ h.flag) × (h.count ≤ MAX_BLOCK_VALUES)
-count_says h e =
-    elim (cases_Bool (eqb h.flag 0)) [
-      | inl zero_flag ↦
-          let none : h.flag ≡ 0 = eqb-true _ _ zero_flag in
-          let full : eqb h.count MAX_BLOCK_VALUES ≡ true = rw zero_flag at e in
-          (rw none refl, omega (arith, eqb-true _ _ full))
-      | inr not_zero ↦ elim (cases_Bool (eqb h.flag 1)) [
-        | inl one_flag ↦
-            let one : h.flag ≡ 1 = eqb-true _ _ one_flag in
-            let both : (leb h.count MAX_BLOCK_VALUES && (ltb 0 h.count || eqb h.number 0)) ≡ true = rw (not_zero, one_flag) at e in
-            (rw one refl, leb-true _ _ (and_parts (leb h.count MAX_BLOCK_VALUES) (ltb 0 h.count || eqb h.number 0) both).0)
-        | inr not_one ↦ absurd (let f : false ≡ true = rw (not_zero, not_one) at e in cc)
-      ]
-    ]
+count_says h e = search rules
 
 -- a block that was read
 record IsPartRead (h : Head) (kind : Kind) (after rest : List ℕ) (reading : Result (List Value) BlockFault) (frame : Frame) : Type 0 where
@@ -340,17 +205,7 @@ record IsPartRead (h : Head) (kind : Kind) (after rest : List ℕ) (reading : Re
 
 part_of_ok : (col at : ℕ) (h : Head) (kind : Kind) (after rest : List ℕ) (reading : Result (List Value) BlockFault) (frame : Frame)
     → part_of col at h kind after reading ≡ Ok (Some (frame, rest)) → IsPartRead h kind after rest reading frame
-part_of_ok col at h kind after rest (Ok values) frame e =
-    let part : Frame = Block (part_with h kind values) in
-    let pair : Frame × List ℕ = (part, after) in
-    let other : Frame × List ℕ = (frame, rest) in
-    let same : pair ≡ other = some_is pair other e in
-    record {
-      values = values;
-      reading_is = refl;
-      frame_is = sym (ap (λ (p : Frame × List ℕ). p.0) same);
-      rest_is = ap (λ (p : Frame × List ℕ). p.1) same;
-    }
+part_of_ok col at h kind after rest (Ok values) frame e = search rules
 part_of_ok col at h kind after rest (Err fault) frame e = absurd cc
 
 pub part_takes : (col at : ℕ) (seam : Seam) (bytes rest : List ℕ) (frame : Frame) → AreBytes bytes → get_or bytes 0 0 ≡ 66
@@ -401,8 +256,4 @@ part_takes col at seam bytes rest frame small first e =
 pub part_at-stands : (col at : ℕ) (seam : Seam) (bytes : List ℕ) (h : Head) (kind : Kind) → 16 ≤ length bytes → h ≡ head_at bytes
     → may_stand seam h ≡ true → kind ≡ unwrap_or seam.kind no_kind → payload_at col at h kind (drop 16 bytes) ≡ part_at col at seam bytes
 unfolding part_at
-part_at-stands col at seam bytes h kind long head stands typed =
-    let enough : ltb (length bytes) 16 ≡ false = le-ltb _ _ long in
-    let good : may_stand seam (head_at bytes) ≡ true = ap (may_stand seam) (sym head) ∙ stands in
-    sym (rw (enough, good) (ap (λ x. payload_at col at x (unwrap_or seam.kind no_kind) (drop 16 bytes)) (sym head)
-    ∙ ap (λ x. payload_at col at h x (drop 16 bytes)) (sym typed)))
+part_at-stands col at seam bytes h kind long head stands typed = search rules

@@ -1,5 +1,5 @@
 -- Reading frames one after the other, as a loop does.
-use Rattle.std.proofs.Common.{◌≡◌, ℕ, zero, suc, ◌-◌, ◌<◌, ◌≤◌, Option, Some, None, List, [], ◌∷◌, ◌++◌, length, Result, Ok, Err, refl, sym, ap, ◌∙◌, append_assoc, arith}
+use Rattle.std.proofs.Common.{◌≡◌, ℕ, zero, suc, ◌-◌, ◌<◌, ◌≤◌, Option, Some, None, List, [], ◌∷◌, ◌++◌, length, Result, Ok, Err, refl, sym, ap, ◌∙◌, arith}
 use Rattle.std.proofs.lemmas.List.{append-nil}
 use Rattle.values.specs.declared.value.ColumnType.{ColumnType}
 use Rattle.frames.specs.declared.fault.ReadFault.{ReadFault}
@@ -11,17 +11,11 @@ use Rattle.frames.specs.declared.seam.Seam.{Seam}
 use Rattle.frames.specs.Column.{seam_after}
 use Rattle.frames.specs.Reading.{◌>>=◌, Found, found_then, and_then, frame_at, frames_at, parts_of, parts_after, Fails}
 use Rattle.frames.proofs.AgainLemmas.{frames_step}
-
-parts_of-cons : (frame : Frame) (frames : List Frame) → parts_of (frame ∷ frames) ≡ parts_of (frame ∷ []) ++ parts_of frames
-parts_of-cons (Header kind) frames = refl
-parts_of-cons (Block part) frames = refl
-parts_of-cons End frames = refl
+use Rattle.std.proofs.lemmas.Grind.{common_steps}
 
 parts_after-and_then : (front : List Part) (frame : Frame) (reading : Result (List Frame) ReadFault)
     → parts_after front (and_then frame reading) ≡ parts_after (front ++ parts_of (frame ∷ [])) reading
-parts_after-and_then front frame (Ok frames) =
-    ap (λ ps. Ok (front ++ ps)) (parts_of-cons frame frames)
-    ∙ ap (λ ps. Ok ps) (sym (append_assoc front (parts_of (frame ∷ [])) (parts_of frames)))
+parts_after-and_then front frame (Ok frames) = grind (arith, common_steps)
 parts_after-and_then front frame (Err fault) = refl
 
 -- what has been read so far, with what is left to read, is all that is read
@@ -43,10 +37,7 @@ module _ (col : ℕ) (wanted : Option ColumnType) (size : ℕ) (seam : Seam) (re
     (total : Result (List Part) ReadFault) where
   -- nothing is left
   pub reads_end : length rest ≡ 0 → IsReadTo col wanted size seam rest front total → total ≡ Ok front
-  reads_end none so_far =
-      sym so_far.read
-      ∙ ap (parts_after front) (none_left so_far.most col wanted size seam rest none)
-      ∙ ap (λ ps. Ok ps) (append-nil front)
+  reads_end none so_far = grind (arith, common_steps, none_left, append-nil)
 
   module _ (some : 0 < length rest) (so_far : IsReadTo col wanted size seam rest front total) where
     abbrev next : ℕ → Found → Result (List Frame) ReadFault

@@ -1,5 +1,5 @@
 -- Bytes that were read as frames are these frames, and a rest.
-use Rattle.std.proofs.Common.{◌≡◌, ℕ, ◌<◌, eqb, Option, Some, List, [], ◌∷◌, length, drop, get_or, Result, Ok, Err, refl, sym, ap, subst, ◌∙◌, inl, inr, arith}
+use Rattle.std.proofs.Common.{◌≡◌, ℕ, ◌<◌, eqb, Option, Some, List, [], ◌∷◌, length, drop, get_or, Result, Ok, Err, refl, sym, ap, subst, ◌∙◌, inl, inr, arith, rules}
 use Rattle.std.proofs.lemmas.Bool.{eqb-true, cases_Bool}
 use Rattle.std.proofs.lemmas.List.{length-append, drop_at}
 use Rattle.values.specs.declared.value.ColumnType.{ColumnType}
@@ -20,19 +20,10 @@ use Rattle.frames.proofs.AgainLemmas.{frame_long}
 abbrev found : Frame → List ℕ → Result Found ReadFault
 found frame rest = Ok (Some (frame, rest))
 
-found_is : (frame other : Frame) (rest left : List ℕ) → found frame rest ≡ found other left → (frame ≡ other) × (rest ≡ left)
-found_is frame other rest left e =
-    let pair : Frame × List ℕ = (frame, rest) in
-    let others : Frame × List ℕ = (other, left) in
-    let same : pair ≡ others = cc in
-    (ap (λ (p : Frame × List ℕ). p.0) same, ap (λ (p : Frame × List ℕ). p.1) same)
-
 end_takes : (seam : Seam) (bytes rest : List ℕ) (frame : Frame) → get_or bytes 0 0 ≡ 69
     → found End (drop 1 bytes) ≡ found frame rest → Takes seam bytes rest frame
 end_takes seam [] rest frame h e = absurd (omega (arith, h))
-end_takes seam (byte ∷ bytes) rest frame h e =
-    let same = found_is End frame bytes rest e in
-    subst (Takes seam (byte ∷ bytes) rest) same.0 (record { spelt = ap (λ b. b ∷ bytes) h ∙ ap (λ r. 69 ∷ r) same.1; lawful = tt })
+end_takes seam (byte ∷ bytes) rest frame h e = search rules
 
 -- a frame that was read is spelt at the front of the bytes, and may stand there
 pub frame_takes : (col at : ℕ) (wanted : Option ColumnType) (seam : Seam) (bytes rest : List ℕ) (frame : Frame) → AreBytes bytes

@@ -1,45 +1,27 @@
 -- Bytes that read as a column are one: its frames, each where it may stand, and a rest.
-use Rattle.std.proofs.Common.{◌≡◌, ℕ, zero, suc, ◌-◌, ◌<◌, ◌≤◌, Bool, true, false, cond, ltb, eqb, Option, Some, None, List, [], ◌∷◌, ◌++◌, length, drop, get_or, Result, Ok, Err, refl, sym, ap, subst, ◌∙◌, append_assoc, inl, inr, arith}
-use Rattle.std.proofs.lemmas.Bool.{ltb-true, lt-ltb, cases_Bool}
+use Rattle.std.proofs.Common.{◌≡◌, ℕ, zero, suc, ◌-◌, ◌<◌, ◌≤◌, true, ltb, eqb, Option, Some, None, List, [], ◌∷◌, ◌++◌, length, drop, Result, Ok, Err, refl, sym, ap, subst, ◌∙◌, append_assoc, inl, inr, arith, rules}
+use Rattle.std.proofs.lemmas.Bool.{lt-ltb, cases_Bool}
 use Rattle.values.specs.declared.value.ColumnType.{ColumnType}
 use Rattle.values.specs.declared.value.Value.{Value}
 use Rattle.blocks.specs.Payload.{AreBytes}
 use Rattle.blocks.specs.declared.fault.BlockFault.{BlockFault}
 use Rattle.frames.specs.declared.fault.ReadFault.{ReadFault}
-use Rattle.frames.specs.declared.fault.ReadFault.TheVariants.{TypesDiffer}
 use Rattle.frames.specs.declared.frame.Format.{Format}
 use Rattle.frames.specs.declared.frame.Frame.{Frame}
-use Rattle.frames.specs.declared.frame.Frame.TheVariants.{Header}
 use Rattle.frames.specs.declared.frame.Head.{Head}
 use Rattle.frames.specs.declared.frame.Kind.{Kind}
 use Rattle.frames.specs.declared.seam.Seam.{Seam}
 use Rattle.frames.specs.Column.{AreFramesAt, column_bytes, frame_bytes, head_at, is_cut_block, is_rest, may_stand, seam_after, seam_after_all, start}
 use Rattle.frames.specs.Laws.{WhatReadsIsAColumn}
-use Rattle.frames.specs.Reading.{◌>>=◌, Found, format_of, type_of, found_then, frame_at, frames_at, header_at, header_of, is_wanted, part_at, part_of}
+use Rattle.frames.specs.Reading.{◌>>=◌, Found, found_then, frame_at, frames_at, header_at, header_of, part_at, part_of}
 use Rattle.frames.proofs.FrameLemmas.{ok_is}
 use Rattle.frames.proofs.TakesLemmas.{frame_takes, frame_shorter, frame_leaves}
 
 -- ---- no frame: a rest
 
-header_none : (col at : ℕ) (wanted : Option ColumnType) (version : Option Format) (named : Option ColumnType) (rest : List ℕ)
-    → header_of col at wanted version named rest ≡ Ok None → ⊥
-header_none col at wanted None named rest e = absurd cc
-header_none col at wanted (Some format) None rest e = absurd cc
-header_none col at wanted (Some format) (Some ty) rest e =
-    tested (is_wanted wanted ty) (Header (record { format = format; ty = ty }), rest) e
-  where
-    tested : (b : Bool) (found : Frame × List ℕ) → cond b (Ok (Some found)) (Err (TypesDiffer col)) ≡ Ok None → ⊥
-    tested true found h = absurd cc
-    tested false found h = absurd cc
-
 header_cut : (col at : ℕ) (wanted : Option ColumnType) (bytes : List ℕ) → header_at col at wanted bytes ≡ Ok None → length bytes < 3
 unfolding header_at
-header_cut col at wanted bytes e =
-    elim (cases_Bool (ltb (length bytes) 3)) [
-      | inl short ↦ ltb-true _ _ short
-      | inr long ↦ absurd
-          (header_none col at wanted (format_of (get_or bytes 1 0)) (type_of (get_or bytes 2 0)) (drop 3 bytes) (rw long at e))
-    ]
+header_cut col at wanted bytes e = search rules
 
 part_none : (col at : ℕ) (h : Head) (kind : Kind) (rest : List ℕ) (reading : Result (List Value) BlockFault)
     → part_of col at h kind rest reading ≡ Ok None → ⊥

@@ -1,11 +1,11 @@
 -- One entry against a tree over the same image: its place in the tree's image, and where it clashes.
-use Rattle.std.proofs.Common.{◌≡◌, ℕ, zero, suc, ◌+◌, ◌-◌, Bool, true, false, cond, not, ◌&&◌, ◌||◌, T, Option, Some, None, is_some, List}
+use Rattle.std.proofs.Common.{◌≡◌, ℕ, zero, suc, ◌+◌, Bool, true, false, cond, not, ◌&&◌, ◌||◌, T, Some, None, is_some, List, rules}
 use Rattle.std.proofs.Common.{[], ◌∷◌, ◌++◌, map, length, filter, take, drop, nat_cmp, Ordering, Less, Equal, Greater, is_lt, is_eq}
 use Rattle.std.proofs.Common.{is_gt, refl, sym, ap, ◌∙◌, subst, arith, take-append-drop, length-take}
 use Rattle.std.specs.Prelude.{◌==◌, nat_lt, slice_get}
 use Rattle.std.specs.List.{list_all}
 use Rattle.std.specs.Ordering.{eq_by_cmp, ordering_then}
-use Rattle.std.specs.Cmp.{tied_itself, nat_cmp_total, ranked}
+use Rattle.std.specs.Cmp.{tied_itself}
 use Rattle.std.proofs.lemmas.Bool.{eqb-true}
 use Rattle.std.proofs.lemmas.Bool.Decides.{nat_tests}
 use Rattle.values.specs.Orders.{key_cmp, key_cmp_total, key_cmp-IsAntisymmetric}
@@ -14,8 +14,6 @@ use Rattle.values.specs.declared.row.Row.{Row}
 use Rattle.values.specs.declared.row.Key.{Key}
 use Rattle.model.specs.declared.clash.ConflictRule.{ConflictRule}
 use Rattle.model.specs.declared.clash.ConflictRule.TheVariants.{ByColumn, ByRow}
-use Rattle.model.specs.declared.clash.ClashKind.{ClashKind}
-use Rattle.model.specs.declared.clash.ClashKind.TheVariants.{InsertInsert, ModifyModify}
 use Rattle.model.specs.declared.entry.Entry.{Entry}
 use Rattle.model.specs.declared.entry.Change.{Change}
 use Rattle.model.specs.declared.entry.Change.TheVariants.{Ins, Del, Mod}
@@ -25,14 +23,15 @@ use Rattle.model.specs.Table.{Table, rank}
 use Rattle.model.specs.Effects.{Cells, Effects, is_keyed_effect}
 use Rattle.model.specs.Entries.{entry_at, entries_of, canonical_entries, change_cmp, entry_cmp, are_ordered}
 use Rattle.model.specs.Places.{insert_count, delete_count, rid_of_insert}
-use Rattle.model.specs.Rebasing.{or_clash, clash_of_changes, clash_of_entries, clash_with, stands_first, inserts_before, deletes_before}
+use Rattle.model.specs.Rebasing.{or_clash, clash_of_entries, clash_with, stands_first, inserts_before, deletes_before}
 use Rattle.model.specs.Rebasing.{rebased_entry}
 use Rattle.model.proofs.CallerLemmas.{first, second, both, less, turn_less, turn_greater}
-use Rattle.delta.specs.Search.{base_cmp, stands_before, IsSplit}
-use Rattle.delta.proofs.CallerLemmas.{insert_count-cons, delete_count-cons, insert_worth, delete_worth, entry_cmp-trans, ordered_right}
+use Rattle.delta.specs.Search.{stands_before, IsSplit}
+use Rattle.delta.proofs.CallerLemmas.{insert_worth, delete_worth, entry_cmp-trans, ordered_right}
 use Rattle.delta.proofs.CallerLemmas.{split_is}
 use Rattle.layers.specs.Serialization.{row_cmp, clash_cmp, clash_with_first}
 use Rattle.layers.proofs.RowPlaceLemmas.{cond_length, inserts_cond, deletes_cond}
+use Rattle.std.proofs.lemmas.Grind.{common_steps}
 
 -- ---- the first entry that is left
 
@@ -102,9 +101,7 @@ module _ (rule : ConflictRule) (key_cols : ℕ) (x : Entry) where
       to_insert ByRow (Mod col value) = refl
 
   one_insert : (c : Change) (n : ℕ) → cond (inserts_before key_cols x (entry_at n c)) 1 0 ≡ cond (before (entry_at n c)) (insert_worth c) 0
-  one_insert (Ins other) n = ap (λ b. cond b 1 0)
-      (ap (λ b. nat_lt n x.sid || ((n == x.sid) && b)) (first_is other x.change)
-      ∙ test_is n x.sid (clash_cmp key_cols rule x.change (Ins other)))
+  one_insert (Ins other) n = grind (arith, common_steps, first_is, test_is)
   one_insert (Del gone) n = zero_if (before (entry_at n (Del gone)))
   one_insert (Mod col value) n = zero_if (before (entry_at n (Mod col value)))
 
@@ -124,34 +121,15 @@ module _ (rule : ConflictRule) (key_cols : ℕ) (x : Entry) where
 
   inserts_are : (es : List Entry) → length (filter (inserts_before key_cols x) es) ≡ insert_count (filter before es)
   inserts_are [] = refl
-  inserts_are (e ∷ es) =
-      omega (
-        arith,
-        cond_length (inserts_before key_cols x e) e (filter (inserts_before key_cols x) es),
-        inserts_cond (before e) e
-            (filter before es),
-        one_insert e.change e.sid,
-        inserts_are es,
-      )
+  inserts_are (e ∷ es) = grind (arith, common_steps, inserts_are es, cond_length, inserts_cond, one_insert)
 
   deletes_are : (es : List Entry) → length (filter (deletes_before key_cols x) es) ≡ delete_count (filter before es)
   deletes_are [] = refl
-  deletes_are (e ∷ es) =
-      omega (
-        arith,
-        cond_length (deletes_before key_cols x e) e (filter (deletes_before key_cols x) es),
-        deletes_cond (before e) e
-            (filter before es),
-        one_delete e.change e.sid,
-        deletes_are es,
-      )
+  deletes_are (e ∷ es) = grind (arith, common_steps, deletes_are es, cond_length, deletes_cond, one_delete)
 
   -- the place of a change gives its position in the image of the tree
   pub rebased_place : (es : List Entry) (n : ℕ) → IsSplit before es n → rid_of_insert (take n es) x.sid ≡ (rebased_entry key_cols es x).sid
-  rebased_place es n split =
-      let inserts = inserts_are es ∙ ap insert_count (split_is before es n split) in
-      let deletes = deletes_are es ∙ ap delete_count (split_is before es n split) in
-      λ i. (x.sid + sym inserts i) - sym deletes i
+  rebased_place es n split = grind (arith, common_steps, inserts_are, split_is, deletes_are)
 
 -- ---- where it clashes
 
@@ -182,148 +160,31 @@ module _ (key_cols : ℕ) where
     abbrev pub clash_order : Entry → Entry → Ordering
     clash_order x y = ordering_then (nat_cmp x.sid y.sid) (clash_cmp key_cols rule x.change y.change)
 
-    -- changes that don't tie don't clash
-    unclashed : (here : Bool) (c d : Change) → T (agree_at here c d) → (here ≡ true → clash_cmp key_cols rule c d ≡ Equal → ⊥) →
-        clash_of_changes rule key_cols here c d ≡ None
-    unclashed here (Ins row) (Ins other) a f = by (eq_by_cmp key_cmp (key_of key_cols row) (key_of key_cols other)) refl a
-      where
-        ties : (r : ConflictRule) → key_cmp (key_of key_cols row) (key_of key_cols other) ≡ Equal
-            → clash_cmp key_cols r (Ins row) (Ins other) ≡ Equal
-        ties ByColumn e = e
-        ties ByRow e = e
-
-        by : (b : Bool) → eq_by_cmp key_cmp (key_of key_cols row) (key_of key_cols other) ≡ b → T (cond b here true) →
-            clash_of_changes rule key_cols here (Ins row) (Ins other) ≡ None
-        by true e h = absurd (f (is_true here h) (ties rule (equal (key_cmp (key_of key_cols row) (key_of key_cols other)) e)))
-        by false e h = ap (λ b. cond b (Some InsertInsert) None) e
-    unclashed here (Ins row) (Del key) a f = refl
-    unclashed here (Ins row) (Mod col value) a f = refl
-    unclashed here (Del key) (Ins row) a f = refl
-    unclashed true (Del key) (Del other) a f = absurd (f refl (by rule))
-      where
-        by : (r : ConflictRule) → clash_cmp key_cols r (Del key) (Del other) ≡ Equal
-        by ByColumn = refl
-        by ByRow = refl
-    unclashed false (Del key) (Del other) a f = refl
-    unclashed true (Del key) (Mod col value) a f = absurd (f refl (by rule))
-      where
-        by : (r : ConflictRule) → clash_cmp key_cols r (Del key) (Mod col value) ≡ Equal
-        by ByColumn = refl
-        by ByRow = refl
-    unclashed false (Del key) (Mod col value) a f = refl
-    unclashed here (Mod col value) (Ins row) a f = refl
-    unclashed true (Mod col value) (Del key) a f = absurd (f refl (by rule))
-      where
-        by : (r : ConflictRule) → clash_cmp key_cols r (Mod col value) (Del key) ≡ Equal
-        by ByColumn = refl
-        by ByRow = refl
-    unclashed false (Mod col value) (Del key) a f = refl
-    unclashed false (Mod col value) (Mod other w) a f = refl
-    unclashed true (Mod col value) (Mod other w) a f = by rule f
-      where
-        shared : (b : Bool) → (col == other) ≡ b → ((nat_cmp col other ≡ Equal) → ⊥) → cond b (Some ModifyModify) None ≡ None
-        shared true e g = absurd (g (ap (nat_cmp col) (sym (eqb-true col other e)) ∙ tied_itself nat_cmp_total col))
-        shared false e g = refl
-
-        by : (r : ConflictRule) → (true ≡ true → clash_cmp key_cols r (Mod col value) (Mod other w) ≡ Equal → ⊥) →
-            clash_of_changes r key_cols true (Mod col value) (Mod other w) ≡ None
-        by ByColumn g = shared (col == other) refl (g refl)
-        by ByRow g = absurd (g refl refl)
-
-    -- and those that do, at one SID, clash
-    tied_clash : (r : ConflictRule) (c d : Change) → clash_cmp key_cols r c d ≡ Equal
-        → is_some (clash_of_changes r key_cols true c d) ≡ true
-    tied_clash ByColumn (Ins row) (Ins other) e = ap (λ r. is_some (cond (is_eq r) (Some InsertInsert) None)) e
-    tied_clash ByRow (Ins row) (Ins other) e = ap (λ r. is_some (cond (is_eq r) (Some InsertInsert) None)) e
-    tied_clash ByColumn (Ins row) (Del key) e = cc
-    tied_clash ByRow (Ins row) (Del key) e = cc
-    tied_clash ByColumn (Ins row) (Mod col value) e = cc
-    tied_clash ByRow (Ins row) (Mod col value) e = cc
-    tied_clash ByColumn (Del key) (Ins row) e = cc
-    tied_clash ByRow (Del key) (Ins row) e = cc
-    tied_clash r (Del key) (Del other) e = refl
-    tied_clash r (Del key) (Mod col value) e = refl
-    tied_clash ByColumn (Mod col value) (Ins row) e = cc
-    tied_clash ByRow (Mod col value) (Ins row) e = cc
-    tied_clash r (Mod col value) (Del key) e = refl
-    tied_clash ByColumn (Mod col value) (Mod other w) e =
-        let same : col ≡ other = ranked col other Equal (sym e) in
-        ap (λ b. is_some (cond b (Some ModifyModify) None)) (number_is col other same)
-    tied_clash ByRow (Mod col value) (Mod other w) e = refl
-
     -- an entry past one that is past it is past it too
     row_cmp-trans : (c : Change) (n : ℕ) (y z : Entry) → ordering_then (nat_cmp n y.sid) (row_cmp key_cols c y.change) ≡ Less →
         entry_cmp key_cols y z ≡ Less → ordering_then (nat_cmp n z.sid) (row_cmp key_cols c z.change) ≡ Less
     row_cmp-trans (Ins row) n y z p q = entry_cmp-trans key_cols (entry_at n (Ins row)) y z p q
     row_cmp-trans (Del key) n y z p q = entry_cmp-trans key_cols (entry_at n (Del key)) y z p q
-    row_cmp-trans (Mod col value) n y z p q = by (nat_cmp n y.sid) refl p
-      where
-        never : (d : Change) → base_cmp d ≡ Less → ⊥
-        never (Ins row) e = cc
-        never (Del key) e = cc
-        never (Mod other w) e = cc
-
-        past : (r : Ordering) → nat_cmp y.sid z.sid ≡ r → nat_cmp n y.sid ≡ Less →
-            ordering_then r (change_cmp key_cols y.change z.change) ≡ Less → nat_cmp n z.sid ≡ Less
-        past Less s e h = nat_cmp_total.trans n y.sid z.sid e s
-        past Equal s e h = ap (nat_cmp n) (sym (ranked y.sid z.sid Equal (sym s))) ∙ e
-        past Greater s e h = cc
-
-        by : (r : Ordering) → nat_cmp n y.sid ≡ r → ordering_then r (base_cmp y.change) ≡ Less →
-            ordering_then (nat_cmp n z.sid) (base_cmp z.change) ≡ Less
-        by Less e h = ap (λ r. ordering_then r (base_cmp z.change)) (past (nat_cmp y.sid z.sid) refl e q)
-        by Equal e h = absurd (never y.change h)
-        by Greater e h = cc
+    row_cmp-trans (Mod col value) n y z p q = search rules
 
     pub clash_order-trans : (x y z : Entry) → clash_order x y ≡ Less → entry_cmp key_cols y z ≡ Less → clash_order x z ≡ Less
-    clash_order-trans x y z p q = by rule p
-      where
-        by : (r : ConflictRule) → ordering_then (nat_cmp x.sid y.sid) (clash_cmp key_cols r x.change y.change) ≡ Less →
-            ordering_then (nat_cmp x.sid z.sid) (clash_cmp key_cols r x.change z.change) ≡ Less
-        by ByColumn h = entry_cmp-trans key_cols x y z h q
-        by ByRow h = row_cmp-trans x.change x.sid y z h q
+    clash_order-trans x y z p q = grind (arith, common_steps, nat_cmp, entry_cmp-trans, row_cmp-trans)
 
     module _ (x : Entry) where
       pub unclashed_entry : (y : Entry) → T (agrees x y) → (clash_order x y ≡ Equal → ⊥) → clash_of_entries rule key_cols x y ≡ None
-      unclashed_entry y a f =
-          unclashed (x.sid == y.sid) x.change y.change a
-          (λ here tie.
-          let cmp = clash_cmp key_cols rule x.change y.change in
-          f (ap (λ n. ordering_then (nat_cmp x.sid n) cmp) (sym (eqb-true x.sid y.sid here))
-          ∙ ap (λ r. ordering_then r cmp) (tied_itself nat_cmp_total x.sid) ∙ tie))
+      unclashed_entry y a f = search rules
 
       pub tied_entry : (y : Entry) → clash_order x y ≡ Equal → is_some (clash_of_entries rule key_cols x y) ≡ true
-      tied_entry y e = by (nat_cmp x.sid y.sid) refl e
-        where
-          by : (r : Ordering) → nat_cmp x.sid y.sid ≡ r → ordering_then r (clash_cmp key_cols rule x.change y.change) ≡ Equal →
-              is_some (clash_of_entries rule key_cols x y) ≡ true
-          by Less q g = cc
-          by Equal q g =
-              let same : x.sid ≡ y.sid = ranked x.sid y.sid Equal (sym q) in
-              ap (λ b. is_some (clash_of_changes rule key_cols b x.change y.change)) (number_is x.sid y.sid same)
-              ∙ tied_clash rule x.change y.change g
-          by Greater q g = cc
+      tied_entry y e = search rules
 
       -- an entry that isn't before it, and doesn't clash, is past it
       past_it : (y : Entry) → T (not (is_gt (clash_order x y))) → clash_of_entries rule key_cols x y ≡ None → clash_order x y ≡ Less
-      past_it y n none = by (clash_order x y) refl n
-        where
-          by : (r : Ordering) → clash_order x y ≡ r → T (not (is_gt r)) → r ≡ Less
-          by Less q g = refl
-          by Equal q g = let some = sym (tied_entry y q) ∙ ap is_some none in cc
-          by Greater q g = absurd g
+      past_it y n none = search rules
 
       none_past : (y : Entry) (zs : List Entry) (i j : ℕ) → clash_order x y ≡ Less → T (list_all (λ z. is_lt (entry_cmp key_cols y z)) zs) →
           T (list_all (agrees x) zs) → clash_with rule key_cols i x j zs ≡ None
       none_past y [] i j lt h a = refl
-      none_past y (z ∷ zs) i j lt h a =
-          let less_z = clash_order-trans x y z lt (less _ (first (is_lt (entry_cmp key_cols y z)) _ h)) in
-          let none = unclashed_entry z (first (agrees x z) _ a) (λ e. absurd_less less_z e) in
-          ap (λ k. or_clash i j k (clash_with rule key_cols i x (suc j) zs)) none
-          ∙ none_past y zs i (suc j) lt (second (is_lt (entry_cmp key_cols y z)) _ h) (second (agrees x z) _ a)
-        where
-          absurd_less : {r : Ordering} → r ≡ Less → r ≡ Equal → ⊥
-          absurd_less p q = cc
+      none_past y (z ∷ zs) i j lt h a = grind (arith, common_steps, none_past y zs i (suc j) lt (second (is_lt (entry_cmp key_cols y z)) _ h) (second (agrees x z) _ a), clash_order-trans, less, first, unclashed_entry, second)
 
       abbrev stands_off : Entry → Bool
       stands_off y = stands_before (clash_cmp key_cols rule x.change) x.sid y
@@ -331,30 +192,12 @@ module _ (key_cols : ℕ) where
       skips : (xs ys : List Entry) (i j : ℕ) → T (list_all stands_off xs) → T (list_all (agrees x) xs) →
           clash_with rule key_cols i x j (xs ++ ys) ≡ clash_with rule key_cols i x (j + length xs) ys
       skips [] ys i j h a = let none : j ≡ j + 0 = omega arith in ap (λ n. clash_with rule key_cols i x n ys) none
-      skips (y ∷ xs) ys i j h a =
-          let next : suc j + length xs ≡ j + suc (length xs) = omega arith in
-          let none = unclashed_entry y (first (agrees x y) _ a) (off (clash_order x y) (first (stands_off y) _ h)) in
-          ap (λ k. or_clash i j k (clash_with rule key_cols i x (suc j) (xs ++ ys))) none
-          ∙ skips xs ys i (suc j) (second (stands_off y) _ h) (second (agrees x y) _ a)
-          ∙ ap (λ n. clash_with rule key_cols i x n ys) next
-        where
-          off : (r : Ordering) → T (is_gt r) → r ≡ Equal → ⊥
-          off Less g e = g
-          off Equal g e = g
-          off Greater g e = cc
+      skips (y ∷ xs) ys i j h a = grind (arith, common_steps, skips xs ys i (suc j) (second (stands_off y) _ h) (second (agrees x y) _ a), unclashed_entry, first, second, is_gt)
 
       at_head : (ys : List Entry) (i j : ℕ) → T (are_ordered key_cols ys) → T (list_all (λ y. not (stands_off y)) ys) →
           T (list_all (agrees x) ys) → clash_with rule key_cols i x j ys ≡ clash_with_first rule key_cols i x j ys
       at_head [] i j o h a = refl
-      at_head (y ∷ ys) i j o h a = by (clash_of_entries rule key_cols x y) refl
-        where
-          by : (k : Option ClashKind) → clash_of_entries rule key_cols x y ≡ k →
-              or_clash i j k (clash_with rule key_cols i x (suc j) ys) ≡ or_clash i j k None
-          by (Some kind) e = refl
-          by None e =
-              let past = past_it y (first (not (stands_off y)) _ h) e in
-              let after = first (list_all (λ z. is_lt (entry_cmp key_cols y z)) ys) (are_ordered key_cols ys) o in
-              none_past y ys i (suc j) past after (second (agrees x y) _ a)
+      at_head (y ∷ ys) i j o h a = grind (arith, common_steps, past_it, first, none_past, second)
 
       all_first : (p : Entry → Bool) (n : ℕ) (es : List Entry) → T (list_all p es) → T (list_all p (take n es))
       all_first p zero es h = tt
@@ -440,7 +283,4 @@ module _ (key_cols : ℕ) where
     pub ranked-canonical_entries : (x : Effects) → T (list_all (λ e. is_keyed_effect key_cols e.0 e.1) x)
         → T (list_all is_ranked (canonical_entries t x))
     ranked-canonical_entries [] h = tt
-    ranked-canonical_entries (e ∷ x) h =
-        all_append (entries_of (rank e.0 t) e.0 e.1) (canonical_entries t x)
-        (ranked_effect e.0 e.1 (first (is_keyed_effect key_cols e.0 e.1) _ h))
-        (ranked-canonical_entries x (second (is_keyed_effect key_cols e.0 e.1) _ h))
+    ranked-canonical_entries (e ∷ x) h = grind (arith, common_steps, ranked-canonical_entries x (second (is_keyed_effect key_cols e.0 e.1) _ h), all_append, ranked_effect, first, second)

@@ -1,15 +1,14 @@
 -- The gap at a key's position in the image is at the key's place.
-use Rattle.std.proofs.Common.{◌≡◌, ℕ, zero, suc, ◌+◌, ◌<◌, ◌≤◌, Bool, true, false, cond, not, ◌&&◌, ◌||◌, T, List, [], ◌∷◌, ◌++◌}
-use Rattle.std.proofs.Common.{filter, map, take, drop, nat_cmp, Ordering, Less, Equal, Greater, is_lt, is_gt, refl, sym, ap, ◌∙◌}
+use Rattle.std.proofs.Common.{◌≡◌, ℕ, zero, suc, ◌+◌, ◌<◌, Bool, true, false, not, T, List, [], ◌∷◌, ◌++◌, rules}
+use Rattle.std.proofs.Common.{filter, map, take, drop, nat_cmp, Less, is_lt, is_gt, refl, sym, ap, ◌∙◌}
 use Rattle.std.proofs.Common.{subst, arith}
-use Rattle.std.specs.Prelude.{◌==◌, nat_lt, Some, slice_get}
+use Rattle.std.specs.Prelude.{Some, slice_get}
 use Rattle.std.specs.Ordering.{ordering_then}
 use Rattle.std.specs.List.{list_all}
 use Rattle.std.specs.FinMap.Entries.{below_all}
 use Rattle.std.proofs.lemmas.Bool.Decides.{nat_tests}
-use Rattle.std.proofs.lemmas.Float.{T_from_true}
 use Rattle.values.specs.Orders.{key_cmp}
-use Rattle.values.specs.Shape.{Columns, key_of}
+use Rattle.values.specs.Shape.{Columns}
 use Rattle.values.specs.declared.row.Key.{Key}
 use Rattle.model.specs.declared.entry.Entry.{Entry}
 use Rattle.model.specs.declared.entry.Change.{Change}
@@ -27,6 +26,7 @@ use Rattle.delta.specs.Search.{insert_cmp, stands_before}
 use Rattle.delta.proofs.CallerLemmas.{deletes-before-insert, insert_count-cons, delete_count-cons, insert_worth, delete_worth, below_passes}
 use Rattle.delta.proofs.CallerLemmas.{next_passes, rank_is}
 use Rattle.layers.proofs.RowPlaceLemmas.{key_place, key_split, in_order, take_first, drop_first}
+use Rattle.std.proofs.lemmas.Grind.{common_steps}
 
 -- ---- the keys of the rows that effects delete
 
@@ -53,11 +53,7 @@ module _ (p : Key → Bool) (t : Table) where
   -- those of the effects on keys that pass it
   only_passing : (x : Effects) → T (only (canonical_entries t (filter (λ e. p e.0) x)))
   only_passing [] = tt
-  only_passing (e ∷ x) =
-      elim (p e.0) as (λ b. p e.0 ≡ b → T (only (canonical_entries t (cond b (e ∷ filter (λ f. p f.0) x) (filter (λ f. p f.0) x))))) [
-        | true ↦ λ yes_it. only_of e.0 e.1 _ (T_from_true _ yes_it) (only_passing x)
-        | false ↦ λ no_it. only_passing x
-      ] refl
+  only_passing (e ∷ x) = grind (arith, common_steps, only_passing x, only_of)
 
 -- ---- the last entry before a place
 
@@ -71,66 +67,30 @@ last_counts : (es : List Entry) (m : ℕ) (e : Entry) → slice_get es m ≡ Som
     → (insert_count (take (suc m) es) ≡ insert_count (take m es) + insert_worth e.change) ×
     (delete_count (take (suc m) es) ≡ delete_count (take m es) + delete_worth e.change)
 last_counts [] m e is = cc
-last_counts (x ∷ es) zero e is =
-    let same : x ≡ e = cc in
-    let ins = ap (λ (y : Entry). insert_worth y.change) same in
-    let del = ap (λ (y : Entry). delete_worth y.change) same in
-    (omega (arith, insert_count-cons x [], ins), omega (arith, delete_count-cons x [], del))
-last_counts (x ∷ es) (suc m) e is =
-    let rest = last_counts es m e is in (
-      omega (arith, insert_count-cons x (take (suc m) es), insert_count-cons x (take m es), rest.0),
-      omega
-          (arith, delete_count-cons x (take (suc m) es), delete_count-cons x (take m es), rest.1),
-    )
+last_counts (x ∷ es) zero e is = grind (arith, common_steps, insert_worth, delete_worth, insert_count-cons, delete_count-cons)
+last_counts (x ∷ es) (suc m) e is = grind (arith, common_steps, last_counts es m e is, insert_count-cons, delete_count-cons)
 
 -- ---- beside an insert of the key whose row comes to the position
 
-passes_le : (next row : ℕ) (b : Bool) → next ≤ row → T b → (nat_lt next row || ((next == row) && b)) ≡ true
-passes_le next row true le h = grind (arith, nat_tests)
-passes_le next row false le h = absurd h
-
-stops_ge : (next row : ℕ) (b : Bool) → row ≤ next → b ≡ false → (nat_lt next row || ((next == row) && b)) ≡ false
-stops_ge next row b ge h = grind (arith, nat_tests)
-
 module _ (key_cols sid : ℕ) (key : Key) where
-  at_most : (n : ℕ) (o : Ordering) → T (is_gt (ordering_then (nat_cmp sid n) o)) → n ≤ sid
-  at_most n Less h = grind (arith, nat_tests)
-  at_most n Equal h = grind (arith, nat_tests)
-  at_most n Greater h = grind (arith, nat_tests)
-
   below : (n : ℕ) → T (is_gt (ordering_then (nat_cmp sid n) Less)) → n < sid
   below n h = grind (arith, nat_tests)
-
-  from_here : (n : ℕ) (o : Ordering) → T (not (is_gt (ordering_then (nat_cmp sid n) o))) → sid ≤ n
-  from_here n Less h = grind (arith, nat_tests)
-  from_here n Equal h = grind (arith, nat_tests)
-  from_here n Greater h = grind (arith, nat_tests)
 
   -- an entry before it leads
   leads : (c : Change) (n a d rid : ℕ) → T (is_gt (ordering_then (nat_cmp sid n) (insert_cmp key_cols key c)))
       → T (deletes_only (λ k. is_lt (key_cmp k key)) c)
       → sid + (a + insert_worth c) ≡ rid + (d + delete_worth c) → is_passed key (n + a) (rid + d) c ≡ true
-  leads (Ins row) n a d rid h only_it level =
-      let le = at_most n (key_cmp key (key_of key_cols row)) h in below_passes (n + a) (rid + d) false (omega (arith, level))
-  leads (Del gone) n a d rid h only_it level =
-      let lt = below n h in passes_le (n + a) (rid + d) (is_lt (key_cmp gone key)) (omega (arith, level)) only_it
+  leads (Ins row) n a d rid h only_it level = search rules
+  leads (Del gone) n a d rid h only_it level = search rules
   leads (Mod col value) n a d rid h only_it level = let lt = below n h in below_passes (n + a) (rid + d) false (omega (arith, level))
 
   -- and the one behind it follows
   follows : (c : Change) (n a d rid : ℕ) → T (not (is_gt (ordering_then (nat_cmp sid n) (insert_cmp key_cols key c))))
       → T (deletes_only (λ k. not (is_lt (key_cmp k key))) c)
       → sid + a ≡ rid + d → is_passed key (n + a) (rid + d) c ≡ false
-  follows (Ins row) n a d rid h only_it level =
-      let le = from_here n (key_cmp key (key_of key_cols row)) h in stops_ge (n + a) (rid + d) false (omega (arith, level)) refl
-  follows (Del gone) n a d rid h only_it level =
-      let le = from_here n Less h in stops_ge (n + a) (rid + d) (is_lt (key_cmp gone key)) (omega (arith, level))
-      (is_false (is_lt (key_cmp gone key)) only_it)
-    where
-      is_false : (b : Bool) → T (not b) → b ≡ false
-      is_false true g = absurd g
-      is_false false g = refl
-  follows (Mod col value) n a d rid h only_it level =
-      let le = from_here n Less h in stops_ge (n + a) (rid + d) false (omega (arith, level)) refl
+  follows (Ins row) n a d rid h only_it level = search rules
+  follows (Del gone) n a d rid h only_it level = search rules
+  follows (Mod col value) n a d rid h only_it level = search rules
 
 module _ (schema : Columns) (t : Table) (x : Effects) (h : AreOver schema t x) (key : Key) where
   abbrev es : List Entry
@@ -214,9 +174,7 @@ module _ (t : Table) where
 
   deleted_above : (k : Key) (x : Effects) → T (below_all key_cmp k x) → T (all_above_key k (deleted_of (canonical_entries t x)))
   deleted_above k [] h = tt
-  deleted_above k (e ∷ x) h =
-      one_above k e.0 e.1 (canonical_entries t x) (first (is_lt (key_cmp k e.0)) _ h)
-      (deleted_above k x (second (is_lt (key_cmp k e.0)) _ h))
+  deleted_above k (e ∷ x) h = grind (arith, common_steps, deleted_above k x (second (is_lt (key_cmp k e.0)) _ h), one_above, first, second)
 
   one_more : (k : Key) (f : Effect) (zs : List Entry) → T (all_above_key k (deleted_of zs)) → T (keys_ascend (deleted_of zs))
       → T (keys_ascend (deleted_of (entries_of (rank k t) k f ++ zs)))

@@ -1,13 +1,10 @@
 -- Entries in a list, which move past another tree where they stand.
-use Rattle.std.proofs.Common.{Bor, nat_cmp, Ordering, Less, Equal, Greater, ◌≡◌, ℕ, zero, suc, ◌+◌, ◌-◌, ◌<◌, ◌≤◌, ◌^◌}
-use Rattle.std.proofs.Common.{inl, inr, Bool, true, false, T, Option, Some, None, List, [], ◌∷◌, map, length, take, drop, refl, sym}
+use Rattle.std.proofs.Common.{Bor, ◌≡◌, ℕ, zero, suc, ◌+◌, ◌-◌, ◌<◌, ◌≤◌, ◌^◌, rules}
+use Rattle.std.proofs.Common.{false, T, Option, Some, None, List, [], ◌∷◌, map, length, take, drop, refl, sym}
 use Rattle.std.proofs.Common.{ap, ◌∙◌, subst, arith}
 use Rattle.std.specs.Prelude.{is_some, nat_lt, slice_get, slice_index_or, slice_set}
 use Rattle.std.specs.Option.{option_copied}
 use Rattle.std.specs.List.{All, list_all}
-use Rattle.std.specs.Ordering.{ordering_then}
-use Rattle.std.specs.Cmp.{ranked}
-use Rattle.std.proofs.lemmas.Bool.Decides.{nat_tests}
 use Rattle.std.proofs.lemmas.Option.{slice_get-get_or, slice_get_within}
 use Rattle.std.proofs.lemmas.List.{take_more_set, drop-set-lt}
 use Rattle.model.specs.declared.clash.ClashKind.{ClashKind}
@@ -23,14 +20,14 @@ use Rattle.layers.specs.declared.cursor.Cursor.{Cursor}
 use Rattle.layers.specs.Held.{moved_by}
 use Rattle.layers.specs.Over.{AreAligned}
 use Rattle.layers.specs.Passing.{IsCursor, AreBefore}
-use Rattle.layers.specs.Serialization.{clash_cmp, clash_with_first}
+use Rattle.layers.specs.Serialization.{clash_with_first}
 use Rattle.model.proofs.CallerLemmas.{both, first, second}
-use Rattle.layers.proofs.ClashLemmas.{agrees, clash_order, rebased_place, unclashed_entry}
-use Rattle.layers.proofs.PassLemmas.{is_before, tested, greater_sid, sids_greater, split_none, split_some, all_still}
-use Rattle.layers.proofs.SerialLemmas.{head_drop, clear_next, moved_next, none_left, all_taken, holds_at, agree, order_y, clash_is}
+use Rattle.layers.proofs.ClashLemmas.{agrees, rebased_place}
+use Rattle.layers.proofs.PassLemmas.{is_before, tested, greater_sid, split_none, split_some, all_still}
+use Rattle.layers.proofs.SerialLemmas.{head_drop, clear_next, moved_next, none_left, holds_at, agree, order_y, clash_is}
 use Rattle.layers.proofs.SerialLemmas.{in_order, small_sid}
 use Rattle.layers.proofs.StillLemmas.{stand_still}
-use Rattle.delta.proofs.CallerLemmas.{greater}
+use Rattle.std.proofs.lemmas.Grind.{common_steps}
 
 -- lists that are the same from an index on have the same there
 pub same_at : (n : ℕ) (xs ys : List Entry) (e : Entry) → drop n xs ≡ drop n ys → slice_get xs n ≡ Some e → slice_get ys n ≡ Some e
@@ -54,12 +51,7 @@ dropped_at (suc n) k [] = refl
 dropped_at (suc n) k (e ∷ es) = let next : suc n + k ≡ suc (n + k) = omega arith in dropped_at n k es ∙ sym (ap (slice_get (e ∷ es)) next)
 
 pub drop_next : (n : ℕ) (xs ys : List Entry) → drop n xs ≡ drop n ys → drop (n + 1) xs ≡ drop (n + 1) ys
-drop_next n xs ys h = by n xs ∙ ap (drop 1) h ∙ sym (by n ys)
-  where
-    by : (m : ℕ) (zs : List Entry) → drop (m + 1) zs ≡ drop 1 (drop m zs)
-    by zero zs = let one : zero + 1 ≡ 1 = omega arith in ap (λ (k : ℕ). drop k zs) one
-    by (suc m) [] = let next : suc m + 1 ≡ suc (m + 1) = omega arith in ap (λ (k : ℕ). drop {A = Entry} k []) next
-    by (suc m) (z ∷ zs) = let next : suc m + 1 ≡ suc (m + 1) = omega arith in ap (λ (k : ℕ). drop k (z ∷ zs)) next ∙ by m zs
+drop_next n xs ys h = grind (arith, common_steps)
 
 none_there : (m : ℕ) (es : List Entry) → slice_get es m ≡ None → length es ≤ m
 none_there m [] h = omega arith
@@ -72,53 +64,21 @@ taken_at m zero (z ∷ es) e at le = absurd (omega arith)
 taken_at zero (suc n) (z ∷ es) e at le = at
 taken_at (suc m) (suc n) (z ∷ es) e at le = taken_at m n es e at (omega arith)
 
-lt_cmp : (n m : ℕ) → n < m → nat_cmp n m ≡ Less
-lt_cmp n m lt = by (nat_cmp n m) refl
-  where
-    by : (r : Ordering) → nat_cmp n m ≡ r → r ≡ Less
-    by Less is = refl
-    by Equal is = let same : n ≡ m = ranked n m Equal (sym is) in absurd (omega (arith, same))
-    by Greater is = let gt : m < n = ranked n m Greater (sym is) in absurd (omega arith)
-
 below_is : (n m : ℕ) → T (nat_lt n m) → n < m
-below_is n m h = by (nat_lt n m) refl h
-  where
-    by : (b : Bool) → nat_lt n m ≡ b → T b → n < m
-    by true is g = grind (arith, nat_tests)
-    by false is g = absurd g
+below_is n m h = search rules
 
 module _ (key_cols : ℕ) (rule : ConflictRule) where
   -- an entry isn't before one that stands below it
   not_before : (e y : Entry) → e.sid < y.sid → is_before key_cols rule e y ≡ false
-  not_before e y lt = by (is_before key_cols rule e y) refl
-    where
-      by : (b : Bool) → is_before key_cols rule e y ≡ b → b ≡ false
-      by false is = refl
-      by true is =
-          let place = sids_greater e.sid y.sid (clash_cmp key_cols rule e.change y.change) (greater _ (subst T (sym is) tt)) in
-          absurd (elim place [
-            | inl gt ↦ omega arith
-            | inr h ↦ let same = h.0 in omega (arith, same)
-          ])
+  not_before e y lt = search rules
 
   -- and clashes with none above it
   unclashed_below : (e y : Entry) → T (agrees key_cols e y) → e.sid < y.sid → clash_of_entries rule key_cols e y ≡ None
-  unclashed_below e y a lt = unclashed_entry key_cols rule e y a by
-    where
-      by : clash_order key_cols rule e y ≡ Equal → ⊥
-      by tie =
-          let off : nat_cmp e.sid y.sid ≡ Less = lt_cmp e.sid y.sid lt in
-          let less : clash_order key_cols rule e y ≡ Less =
-          ap (λ (r : Ordering). ordering_then r (clash_cmp key_cols rule e.change y.change)) off in
-          let none : ◌≡◌ {A = Ordering} Less Equal = sym less ∙ tie in
-          cc
+  unclashed_below e y a lt = search rules
 
   all_before : (y : Entry) (es : List Entry) → T (list_all (λ e. nat_lt e.sid y.sid) es) → T (list_all (is_before key_cols ByColumn y) es)
   all_before y [] h = tt
-  all_before y (e ∷ es) h =
-      let lt = below_is e.sid y.sid (first (nat_lt e.sid y.sid) _ h) in
-      let here = greater_sid y.sid e.sid (clash_cmp key_cols ByColumn y.change e.change) lt in
-      both (is_before key_cols ByColumn y e) _ (tested _ here) (all_before y es (second (nat_lt e.sid y.sid) _ h))
+  all_before y (e ∷ es) h = grind (arith, common_steps, all_before y es (second (nat_lt e.sid y.sid) _ h), below_is, first, greater_sid, both, is_before, tested, second)
 
 module _ (rule : ConflictRule) (x y : Tree) (w : AreAligned x y) where
   -- so many of the entries have moved, and clash with none; the cursor is ready for the next one
@@ -170,11 +130,7 @@ module _ (rule : ConflictRule) (x y : Tree) (w : AreAligned x y) where
   -- all have moved
   pub ended : (entries : List Entry) (c : Cursor) (n : ℕ) → IsMoved entries c n → length entries ≤ n → length x.entries ≤ n
       → (first_clash rule y.key_cols x.entries y.entries ≡ None) × (entries ≡ rebased_entries y.key_cols y.entries x.entries)
-  ended entries c n inv end own_end = (
-    inv.clear ∙ ap (λ (es : List Entry). first_clash_from rule y.key_cols n es y.entries) (none_left n x.entries own_end),
-    sym (all_taken n entries end) ∙ inv.moved
-        ∙ ap (rebased_entries y.key_cols y.entries) (all_taken n x.entries own_end),
-  )
+  ended entries c n inv end own_end = grind (arith, common_steps)
 
   -- ---- below the first entry of the other tree
 
@@ -246,15 +202,7 @@ module _ (rule : ConflictRule) (x y : Tree) (w : AreAligned x y) where
 
     -- and with no entry of the other tree, none has moved yet
     pub begins_first : IsMoved x.entries c 0
-    begins_first = record {
-      tree = tree;
-      cursor = here;
-      within = omega arith;
-      moved = refl;
-      left = refl;
-      ready = λ (e : Entry) at. ready_first e;
-      clear = refl;
-    }
+    begins_first = search rules
 
   -- ---- past all entries of the other tree
 
@@ -286,11 +234,7 @@ module _ (rule : ConflictRule) (x y : Tree) (w : AreAligned x y) where
         × (rebased_entries y.key_cols y.entries (drop n x.entries) ≡ map (moved_by c.added c.gone) (drop n x.entries))
 
     none_left_alike : (n : ℕ) → length x.entries ≤ n → MoveAlike n
-    none_left_alike n size =
-        let none = none_left n x.entries size in (
-          ap (λ (es : List Entry). first_clash_from rule y.key_cols n es y.entries) none,
-          ap (rebased_entries y.key_cols y.entries) none ∙ sym (ap (map (moved_by c.added c.gone)) none),
-        )
+    none_left_alike n size = grind (arith, common_steps)
 
     pub rest : (m n : ℕ) → length x.entries ≤ n + m → ((e : Entry) → slice_get x.entries n ≡ Some e → AreBefore rule c e) → MoveAlike n
     rest zero n size ready = none_left_alike n (omega (arith, size))

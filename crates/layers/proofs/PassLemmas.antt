@@ -1,12 +1,12 @@
 -- A walk past entries in order, as those of another tree come in order.
-use Rattle.std.proofs.Common.{◌≡◌, ℕ, zero, suc, ◌+◌, ◌<◌, ◌≤◌, ◌^◌, ◌⊎◌, inl, inr, Bool, true, false, not, T, Some, None, List, [], ◌∷◌}
-use Rattle.std.proofs.Common.{◌++◌, length, take, drop, nat_cmp, Ordering, Less, Equal, Greater, is_lt, is_gt, refl, sym, ap, ◌∙◌, subst}
+use Rattle.std.proofs.Common.{◌≡◌, ℕ, zero, suc, ◌+◌, ◌<◌, ◌≤◌, ◌^◌, ◌⊎◌, Bool, true, false, not, T, Some, None, List, [], ◌∷◌, rules}
+use Rattle.std.proofs.Common.{◌++◌, length, take, drop, nat_cmp, Ordering, Less, Greater, is_lt, is_gt, refl, sym, ap, ◌∙◌, subst}
 use Rattle.std.proofs.Common.{arith, length-take, take-append-drop}
 use Rattle.std.specs.Prelude.{slice_get}
 use Rattle.std.specs.Bool.{passes}
 use Rattle.std.specs.List.{list_all}
 use Rattle.std.specs.Ordering.{ordering_then}
-use Rattle.std.specs.Cmp.{ranked, tied_itself, nat_cmp_total}
+use Rattle.std.specs.Cmp.{tied_itself, nat_cmp_total}
 use Rattle.std.proofs.lemmas.Option.{slice_get_within}
 use Rattle.values.specs.Orders.{key_cmp_total}
 use Rattle.values.specs.Shape.{key_of}
@@ -30,6 +30,7 @@ use Rattle.layers.specs.declared.beside.Search.TheVariants.{Descents, Walk}
 use Rattle.layers.specs.Passing.{IsCursor, AreBefore, IsReady, searched_tree}
 use Rattle.layers.specs.Serialization.{clash_cmp}
 use Rattle.layers.proofs.SerialLemmas.{next_take}
+use Rattle.std.proofs.lemmas.Grind.{common_steps}
 
 -- ---- one entry more is passed
 
@@ -38,9 +39,7 @@ module _ (c : Cursor) (here : IsCursor c) where
   es = c.tree.now.entries
 
   pub counts_fit : c.added + c.gone ≤ 2 ^ 40
-  counts_fit =
-      let all = counts-le (take c.passed es) in
-      omega (arith, all, length-take c.passed es, here.within, here.lawful.counted, here.added_is, here.gone_is)
+  counts_fit = grind (arith, common_steps, counts-le, length-take)
 
   ahead_next : (n : ℕ) (zs : List Entry) → drop 1 (drop n zs) ≡ drop (n + 1) zs
   ahead_next zero [] = let one : ◌≡◌ {A = ℕ} 1 (zero + 1) = omega arith in ap (λ (m : ℕ). drop m []) one
@@ -69,31 +68,16 @@ module _ (c : Cursor) (here : IsCursor c) where
 -- ---- SIDs in order
 
 pub greater_sid : (a b : ℕ) (o : Ordering) → b < a → ordering_then (nat_cmp a b) o ≡ Greater
-greater_sid a b o h = by (nat_cmp a b) refl
-  where
-    by : (r : Ordering) → nat_cmp a b ≡ r → ordering_then r o ≡ Greater
-    by Less e = let l : a < b = ranked a b Less (sym e) in absurd (omega arith)
-    by Equal e = let l : a ≡ b = ranked a b Equal (sym e) in absurd (omega arith)
-    by Greater e = refl
+greater_sid a b o h = search rules
 
 same_sid : (a b : ℕ) (o : Ordering) → a ≡ b → o ≡ Greater → ordering_then (nat_cmp a b) o ≡ Greater
 same_sid a b o h g = ap (λ m. ordering_then (nat_cmp a m) o) (sym h) ∙ ap (λ r. ordering_then r o) (tied_itself nat_cmp_total a) ∙ g
 
 pub sids_greater : (a b : ℕ) (o : Ordering) → ordering_then (nat_cmp a b) o ≡ Greater → (b < a) ⊎ ((a ≡ b) × (o ≡ Greater))
-sids_greater a b o h = by (nat_cmp a b) refl h
-  where
-    by : (r : Ordering) → nat_cmp a b ≡ r → ordering_then r o ≡ Greater → (b < a) ⊎ ((a ≡ b) × (o ≡ Greater))
-    by Less e g = cc
-    by Equal e g = let same : a ≡ b = ranked a b Equal (sym e) in inr (same, g)
-    by Greater e g = let lt : b < a = ranked a b Greater (sym e) in inl lt
+sids_greater a b o h = search rules
 
 pub sids_less : (a b : ℕ) (o : Ordering) → ordering_then (nat_cmp a b) o ≡ Less → (a < b) ⊎ ((a ≡ b) × (o ≡ Less))
-sids_less a b o h = by (nat_cmp a b) refl h
-  where
-    by : (r : Ordering) → nat_cmp a b ≡ r → ordering_then r o ≡ Less → (a < b) ⊎ ((a ≡ b) × (o ≡ Less))
-    by Less e g = let lt : a < b = ranked a b Less (sym e) in inl lt
-    by Equal e g = let same : a ≡ b = ranked a b Equal (sym e) in inr (same, g)
-    by Greater e g = cc
+sids_less a b o h = search rules
 
 -- ---- changes in order
 
@@ -202,45 +186,10 @@ module _ (key_cols : ℕ) (rule : ConflictRule) where
   is_before e y = stands_before (clash_cmp key_cols rule e.change) e.sid y
 
   earlier : (e y z : Entry) → entry_cmp key_cols y z ≡ Less → T (is_before e z) → T (is_before e y)
-  earlier e y z below tests =
-      let cmp = clash_cmp key_cols rule e.change in
-      tested (ordering_then (nat_cmp e.sid y.sid) (cmp y.change))
-      (elim (sids_less y.sid z.sid (change_cmp key_cols y.change z.change) below) [
-        | inl lt ↦
-            elim (sids_greater e.sid z.sid (cmp z.change) (greater _ tests)) [
-              | inl gt ↦ greater_sid e.sid y.sid (cmp y.change) (omega arith)
-              | inr h ↦ let same = h.0 in greater_sid e.sid y.sid (cmp y.change) (omega (arith, same))
-            ]
-        | inr s ↦
-            let level = s.0 in
-            elim (sids_greater e.sid z.sid (cmp z.change) (greater _ tests)) [
-              | inl gt ↦ greater_sid e.sid y.sid (cmp y.change) (omega (arith, level))
-              | inr h ↦
-                  let same = h.0 in
-                  same_sid e.sid y.sid (cmp y.change) (omega (arith, same, level)) (closed key_cols rule e.change y.change z.change s.1 h.1)
-            ]
-      ])
+  earlier e y z below tests = grind (arith, common_steps, tested, nat_cmp, sids_less, sids_greater, greater, greater_sid, same_sid, closed)
 
   pub still : (e z y : Entry) → entry_cmp key_cols e z ≡ Less → T (is_before e y) → T (is_before z y)
-  still e z y below tests =
-      let own = clash_cmp key_cols rule e.change in
-      let cmp = clash_cmp key_cols rule z.change in
-      tested (ordering_then (nat_cmp z.sid y.sid) (cmp y.change))
-      (elim (sids_less e.sid z.sid (change_cmp key_cols e.change z.change) below) [
-        | inl lt ↦
-            elim (sids_greater e.sid y.sid (own y.change) (greater _ tests)) [
-              | inl gt ↦ greater_sid z.sid y.sid (cmp y.change) (omega arith)
-              | inr h ↦ let same = h.0 in greater_sid z.sid y.sid (cmp y.change) (omega (arith, same))
-            ]
-        | inr s ↦
-            let level = s.0 in
-            elim (sids_greater e.sid y.sid (own y.change) (greater _ tests)) [
-              | inl gt ↦ greater_sid z.sid y.sid (cmp y.change) (omega (arith, level))
-              | inr h ↦
-                  let same = h.0 in
-                  same_sid z.sid y.sid (cmp y.change) (omega (arith, same, level)) (later key_cols rule e.change z.change y.change s.1 h.1)
-            ]
-      ])
+  still e z y below tests = grind (arith, common_steps, tested, nat_cmp, sids_less, sids_greater, greater, greater_sid, same_sid, later)
 
   -- entries before one stand before the next one
   pub all_still : (e z : Entry) (ys : List Entry) → entry_cmp key_cols e z ≡ Less → T (list_all (is_before e) ys)
@@ -253,17 +202,7 @@ module _ (key_cols : ℕ) (rule : ConflictRule) where
   all_past : (e y : Entry) (zs : List Entry) → is_before e y ≡ false → T (list_all (λ z. is_lt (entry_cmp key_cols y z)) zs)
       → T (list_all (λ z. not (is_before e z)) zs)
   all_past e y [] off h = tt
-  all_past e y (z ∷ zs) off h =
-      let below = less _ (first (is_lt (entry_cmp key_cols y z)) _ h) in
-      both (not (is_before e z)) _ (by (is_before e z) (earlier e y z below))
-      (all_past e y zs off (second (is_lt (entry_cmp key_cols y z)) _ h))
-    where
-      never : T (is_before e y) → ⊥
-      never h = subst T off h
-
-      by : (b : Bool) → (T b → T (is_before e y)) → T (not b)
-      by true f = absurd (never (f tt))
-      by false f = tt
+  all_past e y (z ∷ zs) off h = grind (arith, common_steps, all_past e y zs off (second (is_lt (entry_cmp key_cols y z)) _ h), less, first, both, earlier, second)
 
   negated : (b : Bool) → b ≡ false → T (not b)
   negated true e = cc

@@ -1,6 +1,6 @@
 -- The effects of the entries of a tree from a place on, and those of a lower tree with them.
-use Rattle.std.proofs.Common.{◌≡◌, ℕ, zero, suc, ◌+◌, ◌≤◌, ◌^◌, Bool, true, false, cond, T, Option, Some, None, List, [], ◌∷◌}
-use Rattle.std.proofs.Common.{◌++◌, length, take, drop, set, nat_cmp, Ordering, Less, Equal, Greater, is_lt, is_eq, refl, sym, ap}
+use Rattle.std.proofs.Common.{◌≡◌, ℕ, zero, suc, ◌+◌, ◌≤◌, ◌^◌, Bool, true, false, cond, T, Option, Some, None, List, [], ◌∷◌, rules}
+use Rattle.std.proofs.Common.{length, take, drop, nat_cmp, Less, Equal, is_lt, refl, sym, ap}
 use Rattle.std.proofs.Common.{◌∙◌, subst, arith, take-append-drop}
 use Rattle.std.specs.Prelude.{IsTrue, slice_get, nat_le}
 use Rattle.std.specs.Bool.{passes}
@@ -8,8 +8,7 @@ use Rattle.std.specs.List.{list_all}
 use Rattle.std.specs.Ordering.{eq_by_cmp}
 use Rattle.std.specs.Cmp.{nat_cmp_total, tied_itself}
 use Rattle.std.specs.FinMap.{nat_cmp-IsAntisymmetric}
-use Rattle.std.specs.FinMap.Entries.{by_order, below_all, find-put, is_sorted-put}
-use Rattle.std.proofs.lemmas.List.{set_comm}
+use Rattle.std.specs.FinMap.Entries.{below_all, find-put, is_sorted-put}
 use Rattle.values.specs.Orders.{key_cmp, key_cmp_total, key_cmp-IsAntisymmetric}
 use Rattle.values.specs.Shape.{Columns, key_of, cell_fits_schema}
 use Rattle.values.specs.declared.row.Row.{Row}
@@ -22,10 +21,10 @@ use Rattle.model.specs.declared.effect.Effect.{Effect}
 use Rattle.model.specs.declared.effect.Effect.TheVariants as effect
 use Rattle.model.specs.Maps.{find, put, is_sorted}
 use Rattle.model.specs.Table.{Table, row_at, rank, is_keyed_table}
-use Rattle.model.specs.Effects.{Cells, Effects, AreOver, set_cells, has_cells, is_keyed_effect, are_keyed_effects}
+use Rattle.model.specs.Effects.{Cells, Effects, AreOver, is_keyed_effect, are_keyed_effects}
 use Rattle.model.specs.Effects.{effect_fits_schema, fits, all_fit, row_after, table_with}
 use Rattle.model.specs.Composition.{over_cells, composed_effect, composed_effects}
-use Rattle.model.specs.Entries.{entry_at, entries_of, canonical_entries}
+use Rattle.model.specs.Entries.{entry_at, canonical_entries}
 use Rattle.model.specs.Places.{insert_count}
 use Rattle.model.proofs.CallerLemmas.{first, second, both, less, turn_less, is_below, changed_by, holds_at, each_at, find_below, set_cells_move, same_key}
 use Rattle.model.proofs.CallerLemmas.{find_first, find-alter, sorted-alter, same_map, cells_ascend, row_at-table_with}
@@ -36,6 +35,7 @@ use Rattle.delta.proofs.CallerLemmas.{insert_count-append, inserts_less_deletes,
 use Rattle.layers.specs.Over.{tree_of, AreConsecutive}
 use Rattle.layers.specs.Propagation.{IsNext, IsOfKey, cell_fits, effect_of_change, effects_with, next_tree}
 use Rattle.layers.proofs.ClashLemmas.{equal}
+use Rattle.std.proofs.lemmas.Grind.{common_steps}
 
 -- ---- effects below a key
 
@@ -86,61 +86,9 @@ rest_after (suc n) f = rest_of (rest_after n f)
 
 canonical-first : (key_cols : ℕ) (t : Table) (e : Key × Effect) (f : Effects) → T (is_keyed_effect key_cols e.0 e.1)
     → canonical_entries t (e ∷ f) ≡ entry_at (rank e.0 t) (first_change e.0 e.1) ∷ canonical_entries t (rest_of (e ∷ f))
-canonical-first key_cols t e f keyed = by e.1 keyed
-  where
-    by : (g : Effect) → T (is_keyed_effect key_cols e.0 g)
-        → entries_of (rank e.0 t) e.0 g ++ canonical_entries t f ≡ entry_at (rank e.0 t) (first_change e.0 g) ∷ canonical_entries t
-        (with_maybe e.0 (rest_effect g) f)
-    by (effect.Ins row) h = refl
-    by effect.Del h = refl
-    by (effect.Mod []) h = absurd h
-    by (effect.Mod (c ∷ [])) h = refl
-    by (effect.Mod (c ∷ d ∷ cells)) h = refl
-    by (effect.Rep row) h = refl
+canonical-first key_cols t e f keyed = search rules
 
 -- ---- the rest are effects over the same table
-
-rest_keyed : (key_cols : ℕ) (k : Key) (g : Effect) → T (is_keyed_effect key_cols k g)
-    → T (holds_at (is_keyed_effect key_cols k) (rest_effect g))
-rest_keyed key_cols k (effect.Ins row) h = tt
-rest_keyed key_cols k effect.Del h = tt
-rest_keyed key_cols k (effect.Mod []) h = tt
-rest_keyed key_cols k (effect.Mod (c ∷ [])) h = tt
-rest_keyed key_cols k (effect.Mod (c ∷ d ∷ cells)) h =
-    let tail = second (below_all nat_cmp c.0 (d ∷ cells)) (is_sorted nat_cmp (d ∷ cells))
-    (first (is_sorted nat_cmp (c ∷ d ∷ cells)) (list_all (λ x. nat_le key_cols x.0) (c ∷ d ∷ cells)) h) in
-    let others = second (nat_le key_cols c.0) (list_all (λ x. nat_le key_cols x.0) (d ∷ cells))
-    (second (is_sorted nat_cmp (c ∷ d ∷ cells)) (list_all (λ x. nat_le key_cols x.0) (c ∷ d ∷ cells)) h) in
-    both (is_sorted nat_cmp (d ∷ cells)) (list_all (λ x. nat_le key_cols x.0) (d ∷ cells)) tail others
-rest_keyed key_cols k (effect.Rep row) h = tt
-
-rest_fits : (old : Option Row) (g : Effect) → T (fits old g) → T (holds_at (fits old) (rest_effect g))
-rest_fits old (effect.Ins row) h = tt
-rest_fits old effect.Del h = tt
-rest_fits old (effect.Mod []) h = tt
-rest_fits old (effect.Mod (c ∷ [])) h = tt
-rest_fits old (effect.Mod (c ∷ d ∷ cells)) h = h
-rest_fits old (effect.Rep row) h = h
-
-rest_shaped : (schema : Columns) (g : Effect) → T (effect_fits_schema schema g) → T (holds_at (effect_fits_schema schema) (rest_effect g))
-rest_shaped schema (effect.Ins row) h = tt
-rest_shaped schema effect.Del h = tt
-rest_shaped schema (effect.Mod []) h = tt
-rest_shaped schema (effect.Mod (c ∷ [])) h = tt
-rest_shaped schema (effect.Mod (c ∷ d ∷ cells)) h =
-    second (cell_fits_schema schema c.0 c.1) (list_all (λ x. cell_fits_schema schema x.0 x.1) (d ∷ cells)) h
-rest_shaped schema (effect.Rep row) h = tt
-
--- a test of each, with an effect at a key that passes it, where there is one
-all_maybe : (p : Key → Effect → Bool) (k : Key) (g : Option Effect) (f : Effects) → T (holds_at (p k) g)
-    → T (list_all (λ e. p e.0 e.1) f) → T (list_all (λ e. p e.0 e.1) (with_maybe k g f))
-all_maybe p k None f h a = a
-all_maybe p k (Some g) f h a = both (p k g) _ h a
-
-sorted_maybe : (k : Key) (g : Option Effect) (f : Effects) → T (below_all key_cmp k f) → T (is_sorted key_cmp f)
-    → T (is_sorted key_cmp (with_maybe k g f))
-sorted_maybe k None f b s = s
-sorted_maybe k (Some g) f b s = both (below_all key_cmp k f) _ b s
 
 is_true : (b : Bool) → T b → IsTrue b
 is_true true h = refl
@@ -148,43 +96,13 @@ is_true false h = absurd h
 
 pub over_rest : (schema : Columns) (t : Table) (f : Effects) → AreOver schema t f → AreOver schema t (rest_of f)
 over_rest schema t [] h = h
-over_rest schema t (e ∷ f) h =
-    let keyed = passes (are_keyed_effects schema.key_cols (e ∷ f)) h.effects_are.keyed in
-    let shaped = passes (list_all (λ x. effect_fits_schema schema x.1) (e ∷ f)) h.effects_are.fitting in
-    let fit = passes (all_fit t (e ∷ f)) h.fit in
-    let sorted = first (is_sorted key_cmp (e ∷ f)) (list_all (λ x. is_keyed_effect schema.key_cols x.0 x.1) (e ∷ f)) keyed in
-    let each = second (is_sorted key_cmp (e ∷ f)) (list_all (λ x. is_keyed_effect schema.key_cols x.0 x.1) (e ∷ f)) keyed in
-    let g = rest_effect e.1 in
-    let order = sorted_maybe e.0 g f (first (below_all key_cmp e.0 f) (is_sorted key_cmp f) sorted)
-    (second (below_all key_cmp e.0 f) (is_sorted key_cmp f) sorted) in
-    let own = all_maybe (is_keyed_effect schema.key_cols) e.0 g f
-    (rest_keyed schema.key_cols e.0 e.1 (first (is_keyed_effect schema.key_cols e.0 e.1) _ each))
-    (second (is_keyed_effect schema.key_cols e.0 e.1) _ each) in
-    let all_keyed : T (are_keyed_effects schema.key_cols (with_maybe e.0 g f)) = both
-    (is_sorted key_cmp (with_maybe e.0 g f)) _ order own in
-    record {
-      table = h.table;
-      effects_are = record {
-        keyed = is_true _ all_keyed;
-        fitting =
-            is_true _
-            (all_maybe (λ k x. effect_fits_schema schema x) e.0 g f
-            (rest_shaped schema e.1 (first (effect_fits_schema schema e.1) _ shaped))
-            (second (effect_fits_schema schema e.1) _ shaped));
-      };
-      fit =
-          is_true _
-          (all_maybe (λ k x. fits (row_at t k) x) e.0 g f (rest_fits (row_at t e.0) e.1 (first (fits (row_at t e.0) e.1) _ fit))
-          (second (fits (row_at t e.0) e.1) _ fit));
-    }
+over_rest schema t (e ∷ f) h = search rules
 
 -- ---- cells
 
 put_first : (c : ℕ × Value) (cells : Cells) → T (below_all nat_cmp c.0 cells) → put nat_cmp c.0 c.1 cells ≡ c ∷ cells
 put_first c [] h = refl
-put_first c (d ∷ cells) h =
-    ap (λ r. by_order r (c ∷ d ∷ cells) ((d.0, c.1) ∷ cells) (d ∷ put nat_cmp c.0 c.1 cells))
-    (less _ (first (is_lt (nat_cmp c.0 d.0)) _ h))
+put_first c (d ∷ cells) h = grind (arith, common_steps)
 
 differ : (c d : ℕ) → nat_cmp c d ≡ Less → c ≡ d → ⊥
 differ c d p e = let q : nat_cmp c d ≡ Equal = ap (nat_cmp c) (sym e) ∙ tied_itself nat_cmp_total c in cc
@@ -308,9 +226,7 @@ module _ (schema : Columns) (t : Table) (x : Effects) (hx : AreOver schema t x) 
   sorted_all = first (is_sorted key_cmp (e ∷ f)) (list_all (λ y. is_keyed_effect schema.key_cols y.0 y.1) (e ∷ f)) keyed_all
 
   keyed_here : T (is_keyed_effect schema.key_cols e.0 e.1)
-  keyed_here =
-      first (is_keyed_effect schema.key_cols e.0 e.1) _
-      (second (is_sorted key_cmp (e ∷ f)) (list_all (λ y. is_keyed_effect schema.key_cols y.0 y.1) (e ∷ f)) keyed_all)
+  keyed_here = search rules
 
   below : T (below_all key_cmp e.0 f)
   below = first (below_all key_cmp e.0 f) (is_sorted key_cmp f) sorted_all
@@ -319,9 +235,7 @@ module _ (schema : Columns) (t : Table) (x : Effects) (hx : AreOver schema t x) 
   fit_here = first (fits (row_at image e.0) e.1) _ (passes (all_fit image (e ∷ f)) hf.fit)
 
   shaped_here : T (effect_fits_schema schema e.1)
-  shaped_here =
-      first (effect_fits_schema schema e.1) _
-      (passes (list_all (λ y. effect_fits_schema schema y.1) (e ∷ f)) hf.effects_are.fitting)
+  shaped_here = search rules
 
   keyed_x : T (are_keyed_effects schema.key_cols x)
   keyed_x = passes (are_keyed_effects schema.key_cols x) hx.effects_are.keyed
@@ -333,21 +247,11 @@ module _ (schema : Columns) (t : Table) (x : Effects) (hx : AreOver schema t x) 
   hr = over_rest schema image (e ∷ f) hf
 
   sorted_rest : T (is_sorted key_cmp rest)
-  sorted_rest =
-      first (is_sorted key_cmp rest) (list_all (λ y. is_keyed_effect schema.key_cols y.0 y.1) rest)
-      (passes (are_keyed_effects schema.key_cols rest) hr.effects_are.keyed)
+  sorted_rest = search rules
 
   ascend_all : (y : Effects) → T (list_all (λ z. is_keyed_effect schema.key_cols z.0 z.1) y) → T (list_all (λ z. cells_ascend z.1) y)
   ascend_all [] h = tt
-  ascend_all (z ∷ y) h =
-      both (cells_ascend z.1) _ (ascends z.0 z.1 (first (is_keyed_effect schema.key_cols z.0 z.1) _ h))
-      (ascend_all y (second (is_keyed_effect schema.key_cols z.0 z.1) _ h))
-    where
-      ascends : (k : Key) (g : Effect) → T (is_keyed_effect schema.key_cols k g) → T (cells_ascend g)
-      ascends k (effect.Ins row) h = tt
-      ascends k effect.Del h = tt
-      ascends k (effect.Mod cells) h = first (is_sorted nat_cmp cells) _ (second (has_cells cells) _ h)
-      ascends k (effect.Rep row) h = tt
+  ascend_all (z ∷ y) h = grind (arith, common_steps, ascend_all y (second (is_keyed_effect schema.key_cols z.0 z.1) _ h), both, cells_ascend, first, second, nat_cmp)
 
   ascend_x : T (holds_at cells_ascend (find key_cmp e.0 x))
   ascend_x =
@@ -395,32 +299,11 @@ module _ (schema : Columns) (t : Table) (x : Effects) (hx : AreOver schema t x) 
   table_is = (composes schema t x rest hx hr).1
 
   pub fit_is : T (fits (row_at (table_with t before) e.0) (effect_of_change change))
-  fit_is =
-      let row : row_at (table_with t before) e.0 ≡ changed_by row_after (rest_effect e.1) (row_at image e.0) =
-      ap (λ (s : Table). row_at s e.0) table_is ∙ row_at-table_with image rest e.0 sorted_rest
-      ∙ ap (λ g. changed_by row_after g (row_at image e.0)) (find_maybe e.0 (rest_effect e.1) f below) in
-      subst (λ (o : Option Row). T (fits o (effect_of_change change))) (sym row)
-      (fits-first schema.key_cols e.0 e.1 (row_at image e.0) keyed_here fit_here)
+  fit_is = grind (arith, common_steps, changed_by, table_is, row_at-table_with, sorted_rest, find_maybe, below, fits-first, keyed_here, fit_here)
 
   -- the rest moves no position up to the key's
   pub rank_kept : rank e.0 (table_with t before) ≡ rank e.0 image
-  rank_kept =
-      let moved = rank-table_with e.0 image rest
-      (first (is_sorted key_cmp image) _ (passes (is_keyed_table schema.key_cols image) hf.table.keyed)) sorted_rest
-      (passes (all_fit image rest) hr.fit) in
-      ap (λ (s : Table). rank e.0 s) table_is ∙ omega_rank moved
-    where
-      omega_rank :
-          (sum_below deletes_of e.0 rest + rank e.0 (table_with image rest) ≡ sum_below inserts_of e.0 rest + rank e.0 image)
-          → rank e.0 (table_with image rest) ≡ rank e.0 image
-      omega_rank moved =
-          omega (
-            arith,
-            moved,
-            sum_maybe deletes_of e.0 (rest_effect e.1) f below,
-            sum_maybe inserts_of e.0
-                (rest_effect e.1) f below,
-          )
+  rank_kept = grind (arith, common_steps, rank-table_with, first, sorted_rest, hr, table_is, sum_below, deletes_of, inserts_of, sum_maybe, below)
 
 -- ---- the walk over the upper entries, from the last
 
@@ -480,12 +363,7 @@ module _ (lower upper : Tree) (w : AreConsecutive lower upper) where
   -- at the end nothing is left
   none_left : (g : Effects) → AreOver w.schema over_image g → canonical_entries over_image g ≡ [] → g ≡ []
   none_left [] h is = refl
-  none_left (e ∷ g) h is =
-      let keyed = passes (are_keyed_effects w.schema.key_cols (e ∷ g)) h.effects_are.keyed in
-      let here = first (is_keyed_effect w.schema.key_cols e.0 e.1) _
-      (second (is_sorted key_cmp (e ∷ g)) (list_all (λ y. is_keyed_effect w.schema.key_cols y.0 y.1) (e ∷ g)) keyed) in
-      let some = sym (canonical-first w.schema.key_cols over_image e g here) ∙ is in
-      cc
+  none_left (e ∷ g) h is = search rules
 
   pub walk_is : lower ≡ tree_from (length upper.entries)
   walk_is =
@@ -500,14 +378,7 @@ module _ (lower upper : Tree) (w : AreConsecutive lower upper) where
   -- ---- bounds
 
   image_few : length over_image ≤ 4294967294
-  image_few =
-      let tests = w.below.over in
-      let t_sorted = first (is_sorted key_cmp w.t) _ (passes (is_keyed_table w.schema.key_cols w.t) tests.table.keyed) in
-      let x_sorted = first (is_sorted key_cmp w.x) (list_all (λ y. is_keyed_effect w.schema.key_cols y.0 y.1) w.x)
-      (passes (are_keyed_effects w.schema.key_cols w.x) tests.effects_are.keyed) in
-      let moved = inserts_less_deletes w.t w.x t_sorted x_sorted (passes (all_fit w.t w.x) tests.fit) in
-      let same = ap (λ (r : Tree). insert_count r.entries) w.below.tree_is in
-      omega (arith, moved, same, w.below.few, w.small.rows)
+  image_few = grind (arith, common_steps, below, first, inserts_less_deletes)
 
   top_few : (n : ℕ) → length (table_with over_image (left_from n)) ≤ 6442450941
   top_few n =
@@ -526,10 +397,7 @@ module _ (lower upper : Tree) (w : AreConsecutive lower upper) where
       (top_few n)
 
   pub entries_few : (n : ℕ) → length (canonical_entries w.t (composed_effects w.x (left_from n))) ≤ 2 ^ 40
-  entries_few n =
-      let over = (composes w.schema w.t w.x (left_from n) w.below.over (over_left n)).0 in
-      let bound = length-entries_over w.schema w.t (composed_effects w.x (left_from n)) w.small.lawful over in
-      omega (arith, bound, composed_few n, w.small.rows)
+  entries_few n = grind (arith, common_steps, composes, below, over_left, length-entries_over, composed_few)
 
   -- ---- one step
 

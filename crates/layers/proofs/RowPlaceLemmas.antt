@@ -1,5 +1,5 @@
 -- Where the row of a key stands in the image of a tree.
-use Rattle.std.proofs.Common.{◌≡◌, ℕ, ◌+◌, ◌-◌, ◌≤◌, Bool, true, false, cond, not, T, Option, Some, None, is_some, List, [], ◌∷◌}
+use Rattle.std.proofs.Common.{◌≡◌, ℕ, ◌+◌, ◌-◌, Bool, true, false, cond, not, T, Option, Some, None, is_some, List, [], ◌∷◌, rules}
 use Rattle.std.proofs.Common.{◌++◌, length, filter, take, drop, get_or, Ordering, Less, Equal, Greater, is_lt, is_eq, refl, sym}
 use Rattle.std.proofs.Common.{ap, ◌∙◌, subst, arith}
 use Rattle.std.specs.Prelude.{◌==◌, nat_lt, nat_le, IsTrue}
@@ -35,6 +35,7 @@ use Rattle.delta.specs.Laws.{row_inserted, deletes_row}
 use Rattle.delta.proofs.CallerLemmas.{nothing, has_insert, HasInsert, insert_count-cons, delete_count-cons, insert_worth}
 use Rattle.delta.proofs.CallerLemmas.{delete_worth, finds_effect, keyed_effects, sorted_effects, sorted_table, fitting_effects, low_all, high_all}
 use Rattle.delta.proofs.CallerLemmas.{rank_is}
+use Rattle.std.proofs.lemmas.Grind.{common_steps}
 
 -- ---- a list split in two
 
@@ -46,17 +47,9 @@ pub drop_first : (xs ys : List Entry) → drop (length xs) (xs ++ ys) ≡ ys
 drop_first [] ys = refl
 drop_first (x ∷ xs) ys = drop_first xs ys
 
-first_within : (xs ys : List Entry) → length xs ≤ length (xs ++ ys)
-first_within [] ys = omega arith
-first_within (x ∷ xs) ys = let rest = first_within xs ys in omega arith
-
 split_first : (p : Entry → Bool) (xs ys : List Entry) → T (list_all p xs) → T (list_all (λ e. not (p e)) ys)
     → IsSplit p (xs ++ ys) (length xs)
-split_first p xs ys h g = record {
-  within = first_within xs ys;
-  before = subst (λ zs. T (list_all p zs)) (sym (take_first xs ys)) h;
-  after = subst (λ zs. T (list_all (λ e. not (p e)) zs)) (sym (drop_first xs ys)) g;
-}
+split_first p xs ys h g = grind (arith, common_steps)
 
 -- ---- counts of entries up to a SID
 
@@ -80,11 +73,7 @@ module _ (key_cols sid : ℕ) (key : Key) where
 
   one_insert : (c : Change) (n : ℕ) → cond (inserts_before key_cols ghost_there (entry_at n c)) 1 0 ≡ cond (nat_le n sid) (insert_worth c) 0
   one_insert (Ins row) n = grind (arith, nat_tests)
-  one_insert (Del gone) n = none (nat_le n sid)
-    where
-      none : (b : Bool) → ◌≡◌ {A = ℕ} 0 (cond b 0 0)
-      none true = refl
-      none false = refl
+  one_insert (Del gone) n = search rules
   one_insert (Mod col value) n = none (nat_le n sid)
     where
       none : (b : Bool) → ◌≡◌ {A = ℕ} 0 (cond b 0 0)
@@ -92,45 +81,19 @@ module _ (key_cols sid : ℕ) (key : Key) where
       none false = refl
 
   one_delete : (c : Change) (n : ℕ) → cond (deletes_before key_cols ghost_there (entry_at n c)) 1 0 ≡ cond (nat_lt n sid) (delete_worth c) 0
-  one_delete (Ins row) n = none (nat_lt n sid)
-    where
-      none : (b : Bool) → ◌≡◌ {A = ℕ} 0 (cond b 0 0)
-      none true = refl
-      none false = refl
+  one_delete (Ins row) n = search rules
   one_delete (Del gone) n = refl
-  one_delete (Mod col value) n = none (nat_lt n sid)
-    where
-      none : (b : Bool) → ◌≡◌ {A = ℕ} 0 (cond b 0 0)
-      none true = refl
-      none false = refl
+  one_delete (Mod col value) n = search rules
 
   inserts_to : (es : List Entry)
       → length (filter (inserts_before key_cols ghost_there) es) ≡ insert_count (filter (λ e. nat_le e.sid sid) es)
   inserts_to [] = refl
-  inserts_to (e ∷ es) =
-      omega (
-        arith,
-        cond_length (inserts_before key_cols ghost_there e) e
-            (filter (inserts_before key_cols ghost_there) es),
-        inserts_cond (nat_le e.sid sid) e
-            (filter (λ e. nat_le e.sid sid) es),
-        one_insert e.change e.sid,
-        inserts_to es,
-      )
+  inserts_to (e ∷ es) = grind (arith, common_steps, inserts_to es, cond_length, inserts_cond, one_insert)
 
   deletes_below : (es : List Entry)
       → length (filter (deletes_before key_cols ghost_there) es) ≡ delete_count (filter (λ e. nat_lt e.sid sid) es)
   deletes_below [] = refl
-  deletes_below (e ∷ es) =
-      omega (
-        arith,
-        cond_length (deletes_before key_cols ghost_there e) e
-            (filter (deletes_before key_cols ghost_there) es),
-        deletes_cond (nat_lt e.sid sid) e
-            (filter (λ e. nat_lt e.sid sid) es),
-        one_delete e.change e.sid,
-        deletes_below es,
-      )
+  deletes_below (e ∷ es) = grind (arith, common_steps, deletes_below es, cond_length, deletes_cond, one_delete)
 
   -- the position of a base row, as that of an entry made consecutive
   rid_of_base-rebased : (es : List Entry) → rid_of_base es sid ≡ (rebased_entry key_cols es ghost_there).sid

@@ -1,5 +1,5 @@
 -- The walk over a tree beside another one over the same image.
-use Rattle.std.proofs.Common.{◌≡◌, ℕ, zero, suc, ◌+◌, ◌<◌, ◌≤◌, ◌^◌, Bool, true, false, T, Option, Some, None, is_some, List, [], ◌∷◌}
+use Rattle.std.proofs.Common.{◌≡◌, ℕ, zero, suc, ◌+◌, ◌<◌, ◌≤◌, ◌^◌, Bool, true, false, T, Option, Some, None, is_some, List, [], ◌∷◌, rules}
 use Rattle.std.proofs.Common.{◌++◌, map, length, take, drop, Less, is_lt, refl, sym, ap, ◌∙◌, subst, arith}
 use Rattle.std.specs.Prelude.{◌==◌, IfSome, slice_get}
 use Rattle.std.specs.Bool.{passes}
@@ -14,13 +14,12 @@ use Rattle.model.specs.declared.clash.ConflictRule.{ConflictRule}
 use Rattle.model.specs.declared.clash.Clash.{Clash}
 use Rattle.model.specs.declared.entry.Entry.{Entry}
 use Rattle.model.specs.Maps.{is_sorted}
-use Rattle.model.specs.Table.{Table, is_keyed_table}
-use Rattle.model.specs.Effects.{Effects, is_keyed_effect, are_keyed_effects, all_fit, table_with}
+use Rattle.model.specs.Table.{Table}
+use Rattle.model.specs.Effects.{Effects, is_keyed_effect, are_keyed_effects, table_with}
 use Rattle.model.specs.Clashes.{conflicts, Conflicts}
 use Rattle.model.specs.Entries.{entry_at, canonical_entries, entry_cmp, are_ordered, IsLawful}
-use Rattle.model.specs.Places.{insert_count}
 use Rattle.model.specs.Rebasing.{or_else, clash_with, first_clash, first_clash_from, rebased_entry, rebased_entries, IsLeastClash}
-use Rattle.model.proofs.CallerLemmas.{first, second, less, canonical_entries-placed, first_clash-least, finds, rebases, ordered}
+use Rattle.model.proofs.CallerLemmas.{first, second, canonical_entries-placed, first_clash-least, finds, rebases, ordered}
 use Rattle.delta.specs.Search.{stands_before, IsSplit}
 use Rattle.delta.specs.Tree.{Tree}
 use Rattle.layers.specs.Over.{IsTreeOf, AreAligned}
@@ -28,23 +27,18 @@ use Rattle.layers.specs.Passing.{put_entries}
 use Rattle.layers.specs.Serialization.{clash_cmp, clash_with_first, rebased_tree}
 use Rattle.delta.proofs.CallerLemmas.{inserts_less_deletes, length-entries_over}
 use Rattle.layers.proofs.ClashLemmas.{agrees, is_ranked, agree_all, ranked-canonical_entries, clash_place}
+use Rattle.std.proofs.lemmas.Grind.{common_steps}
 
 pub head_drop : (n : ℕ) (es : List Entry) (e : Entry) → slice_get es n ≡ Some e → drop n es ≡ e ∷ drop (n + 1) es
 head_drop n [] e is = cc
-head_drop zero (z ∷ es) e is =
-    let same : z ≡ e = cc in
-    let one : ◌≡◌ {A = ℕ} 1 (zero + 1) = omega arith in
-    λ i. same i ∷ drop (one i) (z ∷ es)
+head_drop zero (z ∷ es) e is = search rules
 head_drop (suc n) (z ∷ es) e is =
     let next : suc (n + 1) ≡ suc n + 1 = omega arith in
     head_drop n es e is ∙ ap (λ m. e ∷ drop m (z ∷ es)) next
 
 pub next_take : (n : ℕ) (es : List Entry) (e : Entry) → slice_get es n ≡ Some e → take (n + 1) es ≡ take n es ++ e ∷ []
 next_take n [] e is = cc
-next_take zero (z ∷ es) e is =
-    let same : z ≡ e = cc in
-    let one : zero + 1 ≡ 1 = omega arith in
-    ap (λ m. take m (z ∷ es)) one ∙ ap (λ y. y ∷ []) same
+next_take zero (z ∷ es) e is = search rules
 next_take (suc n) (z ∷ es) e is =
     let next : suc n + 1 ≡ suc (n + 1) = omega arith in
     ap (λ m. take m (z ∷ es)) next ∙ ap (λ ys. z ∷ ys) (next_take n es e is)
@@ -58,11 +52,7 @@ pub record IsAt (n : ℕ) (es left : List Entry) (e : Entry) : Type 0 where
 pub is_at : (n : ℕ) (es left : List Entry) (e : Entry) → drop n es ≡ e ∷ left → IsAt n es left e
 is_at zero [] left e is = cc
 is_at (suc n) [] left e is = cc
-is_at zero (z ∷ es) left e is =
-    let one : ◌≡◌ {A = ℕ} 1 (zero + 1) = omega arith in
-    let same : z ≡ e = cc in
-    let rest : left ≡ es = cc in
-    record { at = ap Some same; left_is = rest ∙ ap (λ m. drop m (z ∷ es)) one; within = omega arith }
+is_at zero (z ∷ es) left e is = search rules
 is_at (suc n) (z ∷ es) left e is =
     let next : suc (n + 1) ≡ suc n + 1 = omega arith in
     let there = is_at n es left e is in
@@ -77,11 +67,7 @@ adjacent : (key_cols n : ℕ) (es : List Entry) (e z : Entry) → T (are_ordered
     → slice_get es (suc n) ≡ Some z → entry_cmp key_cols e z ≡ Less
 adjacent key_cols n [] e z o p q = cc
 adjacent key_cols zero (a ∷ []) e z o p q = cc
-adjacent key_cols zero (a ∷ (b ∷ es)) e z o p q =
-    let here : a ≡ e = cc in
-    let there : b ≡ z = cc in
-    let all = first (list_all (λ y. is_lt (entry_cmp key_cols a y)) (b ∷ es)) (are_ordered key_cols (b ∷ es)) o in
-    (λ i. entry_cmp key_cols (sym here i) (sym there i)) ∙ less _ (first (is_lt (entry_cmp key_cols a b)) _ all)
+adjacent key_cols zero (a ∷ (b ∷ es)) e z o p q = search rules
 adjacent key_cols (suc n) (a ∷ es) e z o p q =
     adjacent key_cols n es e z (second (list_all (λ y. is_lt (entry_cmp key_cols a y)) es) (are_ordered key_cols es) o) p q
 
@@ -100,9 +86,7 @@ clear_next rule key_cols n xs ys e at none =
 -- and one that clashes is the first
 pub clash_here : (rule : ConflictRule) (key_cols n : ℕ) (xs ys : List Entry) (e : Entry) (clash : Clash) → slice_get xs n ≡ Some e
     → clash_with rule key_cols n e 0 ys ≡ Some clash → first_clash_from rule key_cols n (drop n xs) ys ≡ Some clash
-clash_here rule key_cols n xs ys e clash at some =
-    ap (λ zs. first_clash_from rule key_cols n zs ys) (head_drop n xs e at)
-    ∙ ap (λ c. or_else c (first_clash_from rule key_cols (suc n) (drop (n + 1) xs) ys)) some
+clash_here rule key_cols n xs ys e clash at some = grind (arith, common_steps, head_drop)
 
 -- the entries so far with one more, made consecutive
 pub moved_next : (key_cols n sid : ℕ) (xs ys out : List Entry) (e : Entry) → slice_get xs n ≡ Some e
@@ -132,11 +116,7 @@ put_none n sid xs (o ∷ out) e at stays none = cc
 -- where one has moved, the entries are those that are put
 pub put_first : (n : ℕ) (xs out : List Entry) (m : Entry) → out ≡ []
     → put_entries (n + 1) xs (take n xs ++ m ∷ []) ≡ put_entries n xs out ++ m ∷ []
-put_first n xs [] m none = by (take n xs)
-  where
-    by : (es : List Entry) → put_entries (n + 1) xs (es ++ m ∷ []) ≡ es ++ m ∷ []
-    by [] = refl
-    by (e ∷ es) = refl
+put_first n xs [] m none = grind (arith, common_steps)
 put_first n xs (o ∷ out) m none = cc
 
 pub put_more : (n : ℕ) (xs out : List Entry) (m : Entry) → (out ≡ [] → ⊥)
@@ -176,12 +156,7 @@ module _ (schema : Columns) (t : Table) (x : Effects) (tree : Tree) (h : IsTreeO
   each = second (is_sorted key_cmp x) (list_all (λ e. is_keyed_effect schema.key_cols e.0 e.1) x) keyed
 
   rows_after : length (table_with t x) ≤ 4294967294
-  rows_after =
-      let t_sorted = first (is_sorted key_cmp t) _ (passes (is_keyed_table schema.key_cols t) h.over.table.keyed) in
-      let x_sorted = first (is_sorted key_cmp x) (list_all (λ e. is_keyed_effect schema.key_cols e.0 e.1) x) keyed in
-      let moved = inserts_less_deletes t x t_sorted x_sorted (passes (all_fit t x) h.over.fit) in
-      let same = ap (λ (r : Tree). insert_count r.entries) h.tree_is in
-      omega (arith, moved, same, h.few, rows)
+  rows_after = grind (arith, common_steps, first, keyed, inserts_less_deletes)
 
 module _ (rule : ConflictRule) (x y : Tree) (w : AreAligned x y) where
   pub cols_x : x.key_cols ≡ w.schema.key_cols
@@ -230,15 +205,10 @@ module _ (rule : ConflictRule) (x y : Tree) (w : AreAligned x y) where
   agree n e at = subst (λ (r : Tree). T (list_all (agrees r.key_cols e) r.entries)) (sym w.y_is.tree_is) (agree_own n e at)
 
   pub order_y : T (are_ordered y.key_cols y.entries)
-  order_y =
-      let order = passes (are_ordered w.schema.key_cols (canonical_entries w.t w.y)) (ordered w.schema w.t w.y w.y_is.over).ordered in
-      subst (λ (r : Tree). T (are_ordered r.key_cols r.entries)) (sym w.y_is.tree_is) order
+  order_y = grind (arith, common_steps, ordered)
 
   pub order_x : T (are_ordered y.key_cols x.entries)
-  order_x =
-      let order = passes (are_ordered w.schema.key_cols (canonical_entries w.t w.x)) (ordered w.schema w.t w.x w.x_is.over).ordered in
-      subst (λ (k : ℕ). T (are_ordered k x.entries)) (sym cols_y)
-      (subst (λ (es : List Entry). T (are_ordered w.schema.key_cols es)) (sym list_x) order)
+  order_x = grind (arith, common_steps, ordered, cols_y, list_x)
 
   -- the first clash of an entry is that at its place
   pub clash_is : (n : ℕ) (e : Entry) (p : ℕ) → slice_get x.entries n ≡ Some e

@@ -1,42 +1,30 @@
 -- Entries in blocks, and how they move.
-use Rattle.std.proofs.Common.{◌≡◌, ℕ, zero, suc, ◌+◌, ◌-◌, ◌*◌, ◌/◌, ◌<◌, ◌≤◌, ◌^◌, ◌≢◌, Bool, true, false, T, cond, Some}
+use Rattle.std.proofs.Common.{◌≡◌, ℕ, zero, suc, ◌+◌, ◌-◌, ◌*◌, ◌/◌, ◌<◌, ◌≤◌, ◌^◌, ◌≢◌, true, false, T, cond, Some, rules}
 use Rattle.std.proofs.Common.{◌⊎◌, inl, inr, List, [], ◌∷◌, ◌++◌, map, length, take, drop, get_or, refl, sym, ap, ◌∙◌, subst, arith}
 use Rattle.std.specs.Prelude.{nat_lt, slice_get, slice_index_or, slice_set}
 use Rattle.std.specs.List.{All, list_all}
 use Rattle.std.specs.List.Sorted.{IsNonDecreasingBy}
 use Rattle.std.specs.Ordering.{is_lt}
 use Rattle.std.specs.Option.{option_map}
-use Rattle.std.proofs.lemmas.Bool.Decides.{nat_tests}
 use Rattle.std.proofs.lemmas.List.{get_or-drop, get_or-set_other, get_or-take, get_or_past, length-drop, length-take}
 use Rattle.std.proofs.lemmas.Option.{get_or_from_slice_get, slice_get_within}
 use Rattle.std.proofs.lemmas.Grind.{get_or-set_at}
 use Rattle.model.specs.declared.entry.Entry.{Entry}
-use Rattle.model.specs.Entries.{are_ordered, change_cmp, entry_cmp}
+use Rattle.model.specs.Entries.{are_ordered, entry_cmp}
 use Rattle.model.proofs.CallerLemmas.{both, first, less, second}
 use Rattle.layers.proofs.PassLemmas.{sids_less}
 use Rattle.layers.specs.declared.shift.Shift.{Shift}
 use Rattle.layers.specs.Shifts.{shifted_by, no_shift, shift_at, moved_from, shifted_entries, move_between, moved_between}
+use Rattle.std.proofs.lemmas.Grind.{common_steps}
 
 lt_true : (n m : ℕ) → n < m → nat_lt n m ≡ true
-lt_true n m lt = by (nat_lt n m) refl
-  where
-    by : (b : Bool) → nat_lt n m ≡ b → b ≡ true
-    by true is = refl
-    by false is = let ge : m ≤ n = grind (arith, nat_tests) in absurd (omega (arith, ge, lt))
+lt_true n m lt = search rules
 
 lt_false : (n m : ℕ) → m ≤ n → nat_lt n m ≡ false
-lt_false n m ge = by (nat_lt n m) refl
-  where
-    by : (b : Bool) → nat_lt n m ≡ b → b ≡ false
-    by true is = let lt : n < m = grind (arith, nat_tests) in absurd (omega (arith, ge, lt))
-    by false is = refl
+lt_false n m ge = search rules
 
 pub le_or_lt : (n m : ℕ) → (n ≤ m) ⊎ (m < n)
-le_or_lt n m = by (nat_lt m n) refl
-  where
-    by : (b : Bool) → nat_lt m n ≡ b → (n ≤ m) ⊎ (m < n)
-    by true is = let lt : m < n = grind (arith, nat_tests) in inr lt
-    by false is = let ge : n ≤ m = grind (arith, nat_tests) in inl ge
+le_or_lt n m = search rules
 
 pub all_at : (P : Entry → Type 0) (n : ℕ) (es : List Entry) (e : Entry) → All P es → slice_get es n ≡ Some e → P e
 all_at P n es e all at = subst P (get_or_from_slice_get es n e e at) (all n e (slice_get_within es n e at))
@@ -54,18 +42,12 @@ moved-moved f g i (e ∷ es) = ap (λ (zs : List Entry). f i (g i e) ∷ zs) (mo
 pub moved_alike : (f g : Move) (i : ℕ) (es : List Entry)
     → ((j : ℕ) (e : Entry) → i ≤ j → j < i + length es → f j e ≡ g j e) → moved_from f i es ≡ moved_from g i es
 moved_alike f g i [] same = refl
-moved_alike f g i (e ∷ es) same =
-    let here = same i e (omega arith) (omega arith) in
-    let rest = moved_alike f g (suc i) es (λ j z low high. same j z (omega (arith, low)) (omega (arith, high))) in
-    λ k. here k ∷ rest k
+moved_alike f g i (e ∷ es) same = grind (arith, common_steps, moved_alike f g (suc i) es (λ j z low high. same j z (omega (arith, low)) (omega (arith, high))))
 
 pub moved_still : (f : Move) (i : ℕ) (es : List Entry)
     → ((j : ℕ) (e : Entry) → i ≤ j → j < i + length es → f j e ≡ e) → moved_from f i es ≡ es
 moved_still f i [] same = refl
-moved_still f i (e ∷ es) same =
-    let here = same i e (omega arith) (omega arith) in
-    let rest = moved_still f (suc i) es (λ j z low high. same j z (omega (arith, low)) (omega (arith, high))) in
-    λ k. here k ∷ rest k
+moved_still f i (e ∷ es) same = grind (arith, common_steps, moved_still f (suc i) es (λ j z low high. same j z (omega (arith, low)) (omega (arith, high))))
 
 pub length-moved : (f : Move) (i : ℕ) (es : List Entry) → length (moved_from f i es) ≡ length es
 length-moved f i [] = refl
@@ -74,26 +56,19 @@ length-moved f i (e ∷ es) = ap suc (length-moved f (suc i) es)
 pub moved_at : (f : Move) (i n : ℕ) (es : List Entry) → slice_get (moved_from f i es) n ≡ option_map (f (i + n)) (slice_get es n)
 moved_at f i n [] = refl
 moved_at f i zero (e ∷ es) = let same : i ≡ i + zero = omega arith in ap (λ (k : ℕ). Some (f k e)) same
-moved_at f i (suc n) (e ∷ es) =
-    let next : suc i + n ≡ i + suc n = omega arith in
-    moved_at f (suc i) n es ∙ ap (λ (k : ℕ). option_map (f k) (slice_get es n)) next
+moved_at f i (suc n) (e ∷ es) = grind (arith, common_steps, moved_at f (suc i) n es)
 
 pub set-moved : (f : Move) (i n : ℕ) (es : List Entry) (x : Entry)
     → moved_from f i (slice_set es n x) ≡ slice_set (moved_from f i es) n (f (i + n) x)
 set-moved f i n [] x = refl
 set-moved f i zero (e ∷ es) x = let same : i ≡ i + zero = omega arith in ap (λ (k : ℕ). f k x ∷ moved_from f (suc i) es) same
-set-moved f i (suc n) (e ∷ es) x =
-    let next : suc i + n ≡ i + suc n = omega arith in
-    ap (λ (zs : List Entry). f i e ∷ zs)
-    (set-moved f (suc i) n es x ∙ ap (λ (k : ℕ). slice_set (moved_from f (suc i) es) n (f k x)) next)
+set-moved f i (suc n) (e ∷ es) x = grind (arith, common_steps, set-moved f (suc i) n es x)
 
 get_or-moved : (f : Move) (i n : ℕ) (es : List Entry) (d z : Entry) → n < length es
     → get_or (moved_from f i es) n z ≡ f (i + n) (get_or es n d)
 get_or-moved f i n [] d z lt = absurd (omega arith)
 get_or-moved f i zero (e ∷ es) d z lt = let same : i ≡ i + zero = omega arith in ap (λ (k : ℕ). f k e) same
-get_or-moved f i (suc n) (e ∷ es) d z lt =
-    let next : suc i + n ≡ i + suc n = omega arith in
-    get_or-moved f (suc i) n es d z (omega arith) ∙ ap (λ (k : ℕ). f k (get_or es n d)) next
+get_or-moved f i (suc n) (e ∷ es) d z lt = grind (arith, common_steps, get_or-moved f (suc i) n es d z (omega arith))
 
 -- what holds of the moved ones holds of each where its move is this one
 pub all_moved : (P : Entry → Type 0) (f : Move) (g : Entry → Entry) (i p m : ℕ) (es : List Entry)
@@ -130,12 +105,8 @@ rest_slices : (s t i m : ℕ) (f : Entry → Entry) (es : List Entry) → s ≤ 
     → map f (take m es) ++ drop m es ≡ moved_from (move_between s t f) i es
 rest_slices s t i zero f [] low end = refl
 rest_slices s t i (suc m) f [] low end = refl
-rest_slices s t i zero f (e ∷ es) low end =
-    sym (moved_still (move_between s t f) i (e ∷ es) (λ j z from to. above s t f j z (omega (arith, low, from)) (omega (arith, end, from))))
-rest_slices s t i (suc m) f (e ∷ es) low end =
-    let here = sym (inside s t f i e low (omega (arith, end))) in
-    let rest = rest_slices s t (suc i) m f es (omega (arith, low)) (omega (arith, end)) in
-    λ k. here k ∷ rest k
+rest_slices s t i zero f (e ∷ es) low end = grind (arith, common_steps, moved_still, above)
+rest_slices s t i (suc m) f (e ∷ es) low end = grind (arith, common_steps, rest_slices s t (suc i) m f es (omega (arith, low)) (omega (arith, end)), inside)
 
 -- as slices
 pub between_slices : (s t i p m : ℕ) (f : Entry → Entry) (es : List Entry) → s ≡ i + p → t ≡ s + m
@@ -143,10 +114,7 @@ pub between_slices : (s t i p m : ℕ) (f : Entry → Entry) (es : List Entry) �
 between_slices s t i zero m f es start end = rest_slices s t i m f es (omega (arith, start)) (omega (arith, start, end))
 between_slices s t i (suc p) zero f [] start end = refl
 between_slices s t i (suc p) (suc m) f [] start end = refl
-between_slices s t i (suc p) m f (e ∷ es) start end =
-    let here = sym (below s t f i e (omega (arith, start))) in
-    let rest = between_slices s t (suc i) p m f es (omega (arith, start)) end in
-    λ k. here k ∷ rest k
+between_slices s t i (suc p) m f (e ∷ es) start end = grind (arith, common_steps, between_slices s t (suc i) p m f es (omega (arith, start)) end, below)
 
 -- from an index to the end
 to_end : (s t i p : ℕ) (f : Entry → Entry) (es : List Entry) → s ≡ i + p → t ≡ i + length es
@@ -164,10 +132,7 @@ to_end s t i zero f (e ∷ es) start end =
         let first = inside s t f j z low (omega (arith, high)) in
         let others = all_there (suc j) zs (omega (arith, low)) (omega (arith, high)) in
         λ k. first k ∷ others k
-to_end s t i (suc p) f (e ∷ es) start end =
-    let here = below s t f i e (omega (arith, start)) in
-    let rest = to_end s t (suc i) p f es (omega (arith, start)) (omega (arith, end)) in
-    λ k. here k ∷ rest k
+to_end s t i (suc p) f (e ∷ es) start end = grind (arith, common_steps, to_end s t (suc i) p f es (omega (arith, start)) (omega (arith, end)), below)
 
 pub moved_to_end : (p : ℕ) (f : Entry → Entry) (es : List Entry) → moved_between p (length es) f es ≡ take p es ++ map f (drop p es)
 moved_to_end p f es = to_end p (length es) 0 p f es (omega arith) (omega arith)
@@ -205,16 +170,7 @@ runs_join p q r f es low high =
 -- past the end there is nothing to move
 pub runs_end : (p q r : ℕ) (f : Entry → Entry) (es : List Entry) → length es ≤ q → length es ≤ r
     → moved_between p q f es ≡ moved_between p r f es
-runs_end p q r f es one two = moved_alike (move_between p q f) (move_between p r f) 0 es by
-  where
-    by : (j : ℕ) (e : Entry) → 0 ≤ j → j < 0 + length es → move_between p q f j e ≡ move_between p r f j e
-    by j e from to =
-        let left : j < q = omega (arith, to, one) in
-        let right : j < r = omega (arith, to, two) in
-        elim (le_or_lt p j) [
-          | inl ge ↦ inside p q f j e ge left ∙ sym (inside p r f j e ge right)
-          | inr lt ↦ below p q f j e lt ∙ sym (below p r f j e lt)
-        ]
+runs_end p q r f es one two = grind (arith, common_steps, moved_alike, le_or_lt, inside, below)
 
 -- ---- shifts
 
@@ -344,60 +300,12 @@ module _ (ss : List Shift) (es : List Entry) (b p q : ℕ) (h : IsBlock b p q (l
 pub added_to : (ss : List Shift) (es : List Entry) (b : ℕ) (both : Shift) (f : Entry → Entry) → b < length ss
     → ((e : Entry) → shifted_by both e ≡ f (shifted_by (get_or ss b no_shift) e))
     → shifted_entries (slice_set ss b both) es ≡ moved_between (b * 256) (b * 256 + 256) f (shifted_entries ss es)
-added_to ss es b both f lt is =
-    let new : Move = λ j. shifted_by (shift_at (slice_set ss b both) j) in
-    let old : Move = λ j. shifted_by (shift_at ss j) in
-    moved_alike new (λ j e. move_between (b * 256) (b * 256 + 256) f j (old j e)) 0 es by
-    ∙ sym (moved-moved (move_between (b * 256) (b * 256 + 256) f) old 0 es)
-  where
-    by : (j : ℕ) (e : Entry) → 0 ≤ j → j < 0 + length es → shifted_by (shift_at (slice_set ss b both) j) e
-        ≡ move_between (b * 256) (b * 256 + 256) f j (shifted_by (shift_at ss j) e)
-    by j e from to =
-        let s = b * 256 in
-        let t = b * 256 + 256 in
-        let own = shifted_by (shift_at ss j) e in
-        elim (le_or_lt s j) [
-          | inl ge ↦
-              elim (le_or_lt t j) [
-                | inl past ↦
-                    let off : j / 256 ≢ b = λ (h : j / 256 ≡ b). absurd (omega (arith, h, past)) in
-                    ap (λ (z : Shift). shifted_by z e) (shift_other ss b j both off) ∙ sym (above s t f j own ge past)
-                | inr short ↦
-                    let here : j / 256 ≡ b = omega (arith, ge, short) in
-                    ap (λ (z : Shift). shifted_by z e) (shift_set ss b j both lt here)
-                    ∙ is e
-                    ∙ ap (λ (k : ℕ). f (shifted_by (get_or ss k no_shift) e)) (sym here)
-                    ∙ sym (inside s t f j own ge short)
-              ]
-          | inr low ↦
-              let off : j / 256 ≢ b = λ (h : j / 256 ≡ b). absurd (omega (arith, h, low)) in
-              ap (λ (z : Shift). shifted_by z e) (shift_other ss b j both off) ∙ sym (below s t f j own low)
-        ]
+added_to ss es b both f lt is = grind (arith, common_steps, both, moved_alike, moved-moved, le_or_lt, shift_other, above, shift_set, inside, below)
 
 -- a block's indices, and those that there are
 pub block_run : (b p q : ℕ) (f : Entry → Entry) (es : List Entry) → IsBlock b p q (length es)
     → moved_between p q f es ≡ moved_between (b * 256) (b * 256 + 256) f es
-block_run b p q f es h = moved_alike (move_between p q f) (move_between (b * 256) (b * 256 + 256) f) 0 es by
-  where
-    by : (j : ℕ) (e : Entry) → 0 ≤ j → j < 0 + length es
-        → move_between p q f j e ≡ move_between (b * 256) (b * 256 + 256) f j e
-    by j e from to =
-        let s = b * 256 in
-        let t = b * 256 + 256 in
-        let len = length es in
-        let lt : j < len = omega (arith, to) in
-        elim (le_or_lt p j) [
-          | inl ge ↦
-              let start = h.there (omega (arith, lt, ge)) in
-              let low : s ≤ j = omega (arith, start, ge) in
-              elim (le_or_lt q j) [
-                | inl past ↦
-                    let end = h.end_there (omega (arith, lt, past)) in
-                    above p q f j e ge past ∙ sym (above s t f j e low (omega (arith, end, past)))
-                | inr short ↦ inside p q f j e ge short ∙ sym (inside s t f j e low (omega (arith, short, h.end_below)))
-              ]
-          | inr less ↦ below p q f j e less ∙ sym (below s t f j e (omega (arith, less, h.below)))
-        ]
+block_run b p q f es h = grind (arith, common_steps, moved_alike, le_or_lt, above, inside, less, below)
 
 -- what few rows up leave small
 pub all_between : (p q : ℕ) (s : Shift) (es : List Entry) → s.up < 2 ^ 62 → All (λ e. e.sid < 2 ^ 64) es
@@ -432,30 +340,14 @@ pub sids_ascend : (key_cols : ℕ) (es : List Entry) → T (are_ordered key_cols
 sids_ascend key_cols [] order i j d le lt = absurd (omega arith)
 sids_ascend key_cols (e ∷ es) order zero zero d le lt = omega arith
 sids_ascend key_cols (e ∷ es) order (suc i) zero d le lt = absurd (omega arith)
-sids_ascend key_cols (e ∷ es) order zero (suc j) d le lt =
-    past es j d (first (list_all (λ z. is_lt (entry_cmp key_cols e z)) es) (are_ordered key_cols es) order) (omega arith)
-  where
-    past : (zs : List Entry) (k : ℕ) (z : Entry) → T (list_all (λ z. is_lt (entry_cmp key_cols e z)) zs) → k < length zs
-        → e.sid ≤ (slice_index_or zs k z).sid
-    past [] k z h below = absurd (omega arith)
-    past (y ∷ zs) zero z h below =
-        elim (sids_less e.sid y.sid (change_cmp key_cols e.change y.change) (less _ (first (is_lt (entry_cmp key_cols e y)) _ h))) [
-          | inl gt ↦ omega arith
-          | inr same ↦ let level = same.0 in omega (arith, level)
-        ]
-    past (y ∷ zs) (suc k) z h below = past zs k z (second (is_lt (entry_cmp key_cols e y)) _ h) (omega arith)
-sids_ascend key_cols (e ∷ es) order (suc i) (suc j) d le lt =
-    sids_ascend key_cols es (second (list_all (λ z. is_lt (entry_cmp key_cols e z)) es) (are_ordered key_cols es) order) i j d
-    (omega arith) (omega arith)
+sids_ascend key_cols (e ∷ es) order zero (suc j) d le lt = grind (arith, common_steps, first, below, sids_less, less, second)
+sids_ascend key_cols (e ∷ es) order (suc i) (suc j) d le lt = grind (arith, common_steps, sids_ascend key_cols es (second (list_all (λ z. is_lt (entry_cmp key_cols e z)) es) (are_ordered key_cols es) order) i j d (omega arith) (omega arith), second)
 
 -- ---- where an entry stands
 
 pub stands_at : (ss : List Shift) (es : List Entry) (n : ℕ) (e : Entry) → slice_get es n ≡ Some e
     → slice_get (shifted_entries ss es) n ≡ Some (shifted_by (shift_at ss n) e)
-stands_at ss es n e at =
-    let same : 0 + n ≡ n = omega arith in
-    moved_at (λ j. shifted_by (shift_at ss j)) 0 n es
-    ∙ (λ i. option_map (shifted_by (shift_at ss (same i))) (at i))
+stands_at ss es n e at = grind (arith, common_steps, moved_at)
 
 -- those before one that stands below
 pub all_lower : (sid n : ℕ) (es : List Entry) → ((k : ℕ) (d : Entry) → k < n → k < length es → (slice_index_or es k d).sid < sid)
@@ -470,33 +362,14 @@ all_lower sid (suc n) (e ∷ es) each =
 -- a block that has none
 pub own_block : (ss : List Shift) (n q len : ℕ) → n < len → len ≤ length ss * 256 → q ≤ (n / 256 + 1) * 256
     → (j : ℕ) → n ≤ j → j < q → shift_at (slice_set ss (n / 256) no_shift) j ≡ no_shift
-own_block ss n q len within covered end j low high =
-    let lt : n / 256 < length ss = omega (arith, within, covered) in
-    let is : j / 256 ≡ n / 256 = omega (arith, end, low, high) in
-    shift_set ss (n / 256) j no_shift lt is
+own_block ss n q len within covered end j low high = search rules
 
 pub stay_between : (p q : ℕ) (s : Shift) (es : List Entry) → s ≡ no_shift → es ≡ moved_between p q (shifted_by s) es
-stay_between p q s es none = sym (moved_still (move_between p q (shifted_by s)) 0 es by)
-  where
-    by : (j : ℕ) (e : Entry) → 0 ≤ j → j < 0 + length es → move_between p q (shifted_by s) j e ≡ e
-    by j e from to =
-        elim (le_or_lt p j) [
-          | inl ge ↦
-              elim (le_or_lt q j) [
-                | inl past ↦ above p q (shifted_by s) j e ge past
-                | inr short ↦
-                    inside p q (shifted_by s) j e ge short ∙ ap (λ (z : Shift). shifted_by z e) none ∙ unmoved e
-              ]
-          | inr low ↦ below p q (shifted_by s) j e low
-        ]
+stay_between p q s es none = grind (arith, common_steps, moved_still, le_or_lt, above, inside, unmoved, below)
 
 pub run_ends : (p q r : ℕ) (f : Entry → Entry) (es : List Entry) → q ≤ r → (q < length es → q ≡ r)
     → moved_between p q f es ≡ moved_between p r f es
-run_ends p q r f es low there =
-    elim (le_or_lt (length es) q) [
-      | inl whole ↦ runs_end p q r f es whole (omega (arith, whole, low))
-      | inr lt ↦ ap (λ (k : ℕ). moved_between p k f es) (there lt)
-    ]
+run_ends p q r f es low there = grind (arith, common_steps, le_or_lt, runs_end)
 
 -- past all shifts
 pub no_shift_past : (ss : List Shift) (j : ℕ) → length ss ≤ j / 256 → shift_at ss j ≡ no_shift
@@ -511,10 +384,7 @@ stands_own ss es n e none at =
 -- and one in its place
 pub puts_own : (ss : List Shift) (es : List Entry) (n : ℕ) (e : Entry) → shift_at ss n ≡ no_shift
     → shifted_entries ss (slice_set es n e) ≡ slice_set (shifted_entries ss es) n e
-puts_own ss es n e none =
-    let same : 0 + n ≡ n = omega arith in
-    let stays = ap (λ (k : ℕ). shifted_by (shift_at ss k) e) same ∙ ap (λ (s : Shift). shifted_by s e) none ∙ unmoved e in
-    set-moved (λ j. shifted_by (shift_at ss j)) 0 n es e ∙ ap (slice_set (shifted_entries ss es) n) stays
+puts_own ss es n e none = grind (arith, common_steps, unmoved, set-moved)
 
 pub map_alike : (f g : Entry → Entry) (es : List Entry) → ((e : Entry) → f e ≡ g e) → map f es ≡ map g es
 map_alike f g [] same = refl

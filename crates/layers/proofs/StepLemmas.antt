@@ -1,13 +1,10 @@
 -- One upper entry, folded into the tree of the effects so far.
-use Rattle.std.proofs.Common.{◌≡◌, ℕ, ◌<◌, ◌≤◌, ◌^◌, Bool, true, false, cond, T, Option, Some, None, is_some, List, length, get_or}
+use Rattle.std.proofs.Common.{◌≡◌, ℕ, ◌<◌, ◌≤◌, ◌^◌, true, false, cond, T, Option, Some, None, is_some, List, length, get_or, rules}
 use Rattle.std.proofs.Common.{remove, set, refl, sym, ap, ◌∙◌, subst, arith}
-use Rattle.std.specs.Prelude.{IsTrue, IsSome, IsSomeAnd, IsFalse, is_none, nat_lt, slice_get}
-use Rattle.std.proofs.lemmas.Bool.Decides.{nat_tests}
+use Rattle.std.specs.Prelude.{IsTrue, IsSome, IsSomeAnd, IsFalse, slice_get}
 use Rattle.std.specs.Bool.{passes}
 use Rattle.values.specs.Orders.{key_cmp}
-use Rattle.values.specs.Shape.{Columns, key_of, cell_fits_schema, cell_fault_at, value_fault}
-use Rattle.values.specs.declared.value.ColumnType.{ColumnType}
-use Rattle.values.specs.declared.fault.ShapeFault.TheVariants.{KeyColumn}
+use Rattle.values.specs.Shape.{Columns, key_of, cell_fits_schema}
 use Rattle.values.specs.declared.row.Row.{Row}
 use Rattle.values.specs.declared.row.Key.{Key}
 use Rattle.values.specs.declared.value.Value.{Value}
@@ -17,7 +14,7 @@ use Rattle.model.specs.declared.entry.Change.TheVariants.{Ins, Del, Mod}
 use Rattle.model.specs.declared.effect.Effect.{Effect}
 use Rattle.model.specs.declared.effect.Effect.TheVariants as effect
 use Rattle.model.specs.declared.write.Write.TheVariants.{Delete, Set}
-use Rattle.model.specs.Maps.{find, is_sorted}
+use Rattle.model.specs.Maps.{find}
 use Rattle.model.specs.Table.{row_at, rank, is_keyed_table}
 use Rattle.model.specs.Effects.{are_keyed_effects, fits, all_fit, row_after, table_with}
 use Rattle.std.proofs.lemmas.Option.{get_or_from_slice_get, slice_get-get_or}
@@ -39,6 +36,7 @@ use Rattle.delta.proofs.CallerLemmas.{nothing, may_insert, may_delete, may_set, 
 use Rattle.layers.specs.Propagation.{IsNext, effect_of_change, effects_with, next_tree}
 use Rattle.layers.proofs.RowPlaceLemmas.{IsRowPlace, key_place, key_split, row_place}
 use Rattle.layers.proofs.GapPlaceLemmas.{gap_place, deletes_ascend-canonical_entries}
+use Rattle.std.proofs.lemmas.Grind.{common_steps}
 
 -- the same step, of an entry whose change is told
 pub with_change : (tree : Tree) (entry : Entry) (c : Change) → entry.change ≡ c → IsNext tree entry → IsNext tree (entry_at entry.sid c)
@@ -120,13 +118,7 @@ module _ (tree : Tree) (entry : Entry) (w : IsNext tree entry) where
   fit_now = passes (fits (row_at (table_with w.t w.x) w.key) (effect_of_change entry.change)) w.fit
 
   pub ascending : IsTrue (deletes_ascend tree.entries)
-  ascending =
-      let sorted = first (is_sorted key_cmp w.x) _ keyed in
-      ap deletes_ascend list_is ∙ is_true (deletes_ascend (canonical_entries w.t w.x)) (deletes_ascend-canonical_entries w.t w.x sorted)
-    where
-      is_true : (b : Bool) → T b → b ≡ true
-      is_true true h = refl
-      is_true false h = absurd h
+  ascending = grind (arith, common_steps, first, keyed, list_is, deletes_ascend-canonical_entries)
 
   -- what is known of the key
   at_key : Known w.schema w.t w.x w.key (find key_cmp w.key w.x)
@@ -147,16 +139,7 @@ module _ (tree : Tree) (entry : Entry) (w : IsNext tree entry) where
 
 -- a cell that fits is outside the key
 outside : (schema : Columns) (col : ℕ) (value : Value) → T (cell_fits_schema schema col value) → schema.key_cols ≤ col
-outside schema col value h = by (slice_get schema.types col) h
-  where
-    by : (o : Option ColumnType) → T (is_none (cell_fault_at o schema.key_cols col value)) → schema.key_cols ≤ col
-    by None g = absurd g
-    by (Some type) g = past (nat_lt col schema.key_cols) refl g
-      where
-        past : (b : Bool) → nat_lt col schema.key_cols ≡ b → T (is_none (cond b (Some KeyColumn) (value_fault type col value)))
-            → schema.key_cols ≤ col
-        past true e p = absurd p
-        past false e p = grind (arith, nat_tests)
+outside schema col value h = search rules
 
 -- ---- an insert
 
@@ -196,11 +179,7 @@ module _ (tree : Tree) (s : ℕ) (row : Row) (w : IsNext tree (entry_at s (Ins r
         (λ i. (sym w.ranked i, sym key_now i, sym (list_is tree (entry_at s (Ins row)) w) i)) (gap_place w.schema w.t w.x w.over w.key))
 
     sid_is : sid ≡ rank w.key w.t
-    sid_is = ap sid_of there
-      where
-        sid_of : Fold → ℕ
-        sid_of (Into index) = 0
-        sid_of (Put n m k) = n
+    sid_is = grind (arith, common_steps, there)
 
     walk_is : start ≡ key_place w.schema w.t w.x w.over w.key
     walk_is = ap start_of there
@@ -210,28 +189,16 @@ module _ (tree : Tree) (s : ℕ) (row : Row) (w : IsNext tree (entry_at s (Ins r
         start_of (Put n m k) = m
 
     pub insert_split : IsSplit (stands_before (insert_cmp tree.key_cols (key_of tree.key_cols row)) sid) tree.entries start
-    insert_split =
-        subst (λ (p : (ℕ × Key) × (ℕ × List Entry) × ℕ). IsSplit (stands_before (insert_cmp p.0.0 p.0.1) p.1.0) p.1.1 p.2)
-        (λ i. (
-          (sym (cols_is tree (entry_at s (Ins row)) w) i, sym key_now i),
-          (sym sid_is i, sym (list_is tree (entry_at s (Ins row)) w) i),
-          sym walk_is i,
-        ))
-        (key_split w.schema w.t w.x w.over w.key)
+    insert_split = grind (arith, common_steps, cols_is, key_now, sid_is, list_is, walk_is, key_split)
 
     pub insert_small : sid < 2 ^ 32
     insert_small = omega (arith, sid_is, small_sid tree (entry_at s (Ins row)) w)
 
     pub insert_now : put_ins tree.key_cols sid row tree.entries ≡ canonical_entries w.t (effects_with w.x w.key (Ins row))
-    insert_now =
-        (λ i. put_ins (cols_is tree (entry_at s (Ins row)) w i) (sid_is i) row (list_is tree (entry_at s (Ins row)) w i))
-        ∙ sym insert_is
+    insert_now = grind (arith, common_steps, cols_is, sid_is, list_is, insert_is)
 
     pub insert_free : is_some (inserted_row tree.key_cols sid (key_of tree.key_cols row) tree.entries) ≡ false
-    insert_free =
-        (λ i. is_some
-        (inserted_row (cols_is tree (entry_at s (Ins row)) w i) (sid_is i) (key_now i) (list_is tree (entry_at s (Ins row)) w i)))
-        ∙ free_is
+    insert_free = grind (arith, common_steps, cols_is, sid_is, key_now, list_is, free_is)
 
     pub insert_room : length (put_ins tree.key_cols sid row tree.entries) ≤ 2 ^ 40
     insert_room = subst (λ (zs : List Entry). length zs ≤ 2 ^ 40) (sym insert_now) w.room
@@ -277,11 +244,7 @@ module _ (tree : Tree) (s : ℕ) (gone : Key) (w : IsNext tree (entry_at s (Del 
     take_within = omega (arith, found.0.short, ap length (list_is tree del_entry w))
 
     take_now : remove tree.entries n ≡ canonical_entries w.t (effects_with w.x w.key (Del gone))
-    take_now =
-        ap (λ (zs : List Entry). remove zs n) (list_is tree del_entry w) ∙ sym found.0.taken
-        ∙ sym (delete_is
-        ∙ ap (λ b. cond b (take_ins w.schema.key_cols (rank w.key w.t) w.key (canonical_entries w.t w.x))
-        (put_del w.schema.key_cols (rank w.key w.t) w.key (canonical_entries w.t w.x))) found.1)
+    take_now = grind (arith, common_steps, remove, list_is, found, delete_is)
 
     pub take_next : (new : Tree) → new ≡ record tree { entries = remove tree.entries n } → new ≡ next_tree tree del_entry w
     take_next new new_is = new_is ∙ (λ i. record { key_cols = cols_is tree del_entry w i; entries = take_now i })
@@ -294,16 +257,10 @@ module _ (tree : Tree) (s : ℕ) (gone : Key) (w : IsNext tree (entry_at s (Del 
     delete_small = omega (arith, on_base.0, small_sid tree del_entry w)
 
     pub delete_now : put_del tree.key_cols q gone tree.entries ≡ canonical_entries w.t (effects_with w.x w.key (Del gone))
-    delete_now =
-        (λ i. put_del (cols_is tree del_entry w i) (on_base.0 i) (w.own i) (list_is tree del_entry w i))
-        ∙ sym (delete_is
-        ∙ ap (λ b. cond b (take_ins w.schema.key_cols (rank w.key w.t) w.key (canonical_entries w.t w.x))
-        (put_del w.schema.key_cols (rank w.key w.t) w.key (canonical_entries w.t w.x))) on_base.1)
+    delete_now = grind (arith, common_steps, cols_is, on_base, list_is, delete_is)
 
     pub delete_free : has_delete q tree.entries ≡ false
-    delete_free =
-        (λ i. has_delete (on_base.0 i) (list_is tree del_entry w i))
-        ∙ (may_delete_by w.schema.key_cols (rank w.key w.t) w.key old (canonical_entries w.t w.x) delete_may).1 on_base.1
+    delete_free = grind (arith, common_steps, on_base, list_is, may_delete_by, delete_may)
 
     pub delete_room : length (put_del tree.key_cols q gone tree.entries) ≤ 2 ^ 40
     delete_room = subst (λ (zs : List Entry). length zs ≤ 2 ^ 40) (sym delete_now) w.room
@@ -368,22 +325,13 @@ module _ (tree : Tree) (s col : ℕ) (value : Value) (w : IsNext tree (entry_at 
 
     set_now : set tree.entries n (entry_at item.sid (change_with_cell col value item.change)) ≡ canonical_entries w.t
         (effects_with w.x w.key (Mod col value))
-    set_now =
-        ap (λ (zs : List Entry). set zs n (entry_at item.sid (change_with_cell col value item.change))) (list_is tree mod_entry w)
-        ∙ sym (row_found.0.with_cell col value)
-        ∙ sym (modify_is
-        ∙ ap (λ b. cond b (set_ins w.schema.key_cols (rank w.key w.t) w.key col value (canonical_entries w.t w.x))
-        (put_mod w.schema.key_cols (rank w.key w.t) col value (canonical_entries w.t w.x))) row_found.1)
+    set_now = grind (arith, common_steps, list_is, row_found, modify_is)
 
     pub set_next : (new : Tree)
         → ((r : Entry) → slice_get tree.entries n ≡ Some r
         → new ≡ record tree { entries = set tree.entries n (entry_at r.sid (change_with_cell col value r.change)) })
         → new ≡ next_tree tree mod_entry w
-    set_next new new_is =
-        let at : slice_get tree.entries n ≡ Some item =
-        ap (λ (zs : List Entry). slice_get zs n) (list_is tree mod_entry w)
-        ∙ slice_get-get_or (canonical_entries w.t w.x) n nothing row_found.0.short in
-        new_is item at ∙ (λ i. record { key_cols = cols_is tree mod_entry w i; entries = set_now i })
+    set_next new new_is = grind (arith, common_steps, list_is, slice_get-get_or, nothing, row_found, cols_is, set_now)
 
   module _ (q : ℕ) (only : (place : Place) → IsAtRid tree.entries s place → place ≡ Base q) where
     row_on_base : IsRowPlace w.schema w.t w.x w.over w.key (Base q)
@@ -393,11 +341,7 @@ module _ (tree : Tree) (s col : ℕ) (value : Value) (w : IsNext tree (entry_at 
     modify_small = omega (arith, row_on_base.0, small_sid tree mod_entry w)
 
     pub modify_now : put_mod tree.key_cols q col value tree.entries ≡ canonical_entries w.t (effects_with w.x w.key (Mod col value))
-    modify_now =
-        (λ i. put_mod (cols_is tree mod_entry w i) (row_on_base.0 i) col value (list_is tree mod_entry w i))
-        ∙ sym (modify_is
-        ∙ ap (λ b. cond b (set_ins w.schema.key_cols (rank w.key w.t) w.key col value (canonical_entries w.t w.x))
-        (put_mod w.schema.key_cols (rank w.key w.t) col value (canonical_entries w.t w.x))) row_on_base.1)
+    modify_now = grind (arith, common_steps, cols_is, row_on_base, list_is, modify_is)
 
     pub modify_free : has_delete q tree.entries ≡ false
     modify_free =

@@ -1,11 +1,9 @@
 -- A tree whose entries stand before all that another one inserts or deletes.
-use Rattle.std.proofs.Common.{◌≡◌, ℕ, ◌+◌, ◌-◌, ◌<◌, ◌≤◌, ◌⊎◌, inl, inr, Bool, true, false, cond, ◌&&◌, ◌||◌, T, List, [], ◌∷◌, length}
+use Rattle.std.proofs.Common.{◌≡◌, ℕ, ◌+◌, ◌-◌, ◌<◌, ◌≤◌, ◌⊎◌, inl, inr, true, false, cond, ◌&&◌, ◌||◌, T, List, [], ◌∷◌, length, rules}
 use Rattle.std.proofs.Common.{filter, Greater, is_lt, refl, ap, ◌∙◌, arith}
 use Rattle.std.specs.Prelude.{◌==◌, nat_lt}
 use Rattle.std.specs.List.{list_all}
 use Rattle.std.proofs.lemmas.Bool.Decides.{nat_tests}
-use Rattle.values.specs.Orders.{key_cmp}
-use Rattle.values.specs.Shape.{key_of}
 use Rattle.model.specs.declared.clash.ConflictRule.TheVariants.{ByColumn}
 use Rattle.model.specs.declared.entry.Entry.{Entry}
 use Rattle.model.specs.declared.entry.Change.{Change}
@@ -15,30 +13,13 @@ use Rattle.model.specs.Rebasing.{stands_first, inserts_before, deletes_before, r
 use Rattle.model.proofs.CallerLemmas.{both, first, second, less}
 use Rattle.layers.proofs.PassLemmas.{is_before, sids_greater, still}
 use Rattle.delta.proofs.CallerLemmas.{greater}
-
-not_insert : (c : Change) → is_modify c ≡ true → is_insert c ≡ false
-not_insert (Ins row) h = cc
-not_insert (Del key) h = refl
-not_insert (Mod col value) h = refl
-
-not_delete : (c : Change) → is_modify c ≡ true → is_delete c ≡ false
-not_delete (Ins row) h = refl
-not_delete (Del key) h = cc
-not_delete (Mod col value) h = refl
+use Rattle.std.proofs.lemmas.Grind.{common_steps}
 
 module _ (key_cols : ℕ) where
   -- a modify before the others moves none
   pub past_modify : (y : Entry) (ys : List Entry) (x : Entry) → is_modify y.change ≡ true
       → rebased_entry key_cols (y ∷ ys) x ≡ rebased_entry key_cols ys x
-  past_modify y ys x h =
-      let inserts = filter (inserts_before key_cols x) ys in
-      let deletes = filter (deletes_before key_cols x) ys in
-      λ i. entry_at
-      ((x.sid + length (cond
-      (not_insert y.change h i && (nat_lt y.sid x.sid || ((y.sid == x.sid) && stands_first key_cols y.change x.change))) (y ∷ inserts)
-      inserts))
-      - length (cond (not_delete y.change h i && nat_lt y.sid x.sid) (y ∷ deletes) deletes))
-      x.change
+  past_modify y ys x h = search rules
 
   -- what stands before a change isn't moved by it
   first_not : (n m : ℕ) (c d : Change) → (m < n) ⊎ ((n ≡ m) × (change_cmp key_cols c d ≡ Greater))
@@ -48,15 +29,7 @@ module _ (key_cols : ℕ) where
   first_not n m (Ins row) (Ins other) (inl lt) = grind (arith, nat_tests)
   first_not n m (Ins row) (Del key) (inl lt) = grind (arith, nat_tests)
   first_not n m (Ins row) (Mod col value) (inl lt) = grind (arith, nat_tests)
-  first_not n m (Ins row) (Ins other) (inr s) =
-      let same = s.0 in
-      let off : nat_lt n m ≡ false = grind (arith, nat_tests) in
-      let none : is_lt (key_cmp (key_of key_cols row) (key_of key_cols other)) ≡ false = ap is_lt s.1 in
-      (λ i. off i || ((n == m) && none i)) ∙ and_false (n == m)
-    where
-      and_false : (b : Bool) → (b && false) ≡ false
-      and_false true = refl
-      and_false false = refl
+  first_not n m (Ins row) (Ins other) (inr s) = search rules
   first_not n m (Ins row) (Del key) (inr s) = let e = s.1 in cc
   first_not n m (Ins row) (Mod col value) (inr s) = let e = s.1 in cc
 
@@ -109,11 +82,7 @@ module _ (key_cols : ℕ) where
   pub stand_still : (e : Entry) (ys xs : List Entry) → T (are_ordered key_cols (e ∷ ys)) → T (list_all (is_before key_cols ByColumn e) xs)
       → rebased_entries key_cols (e ∷ ys) xs ≡ xs
   stand_still e ys [] o h = refl
-  stand_still e ys (x ∷ xs) o h =
-      let here = first (is_before key_cols ByColumn e x) _ h in
-      let all = first (list_all (λ y. is_lt (entry_cmp key_cols e y)) ys) (are_ordered key_cols ys) o in
-      λ i. stood x (e ∷ ys) (both (is_before key_cols ByColumn e x) _ here (before_all e x ys all here)) i ∷ stand_still e ys xs o
-      (second (is_before key_cols ByColumn e x) _ h) i
+  stand_still e ys (x ∷ xs) o h = grind (arith, common_steps, stand_still e ys xs o (second (is_before key_cols ByColumn e x) _ h), first, is_before, stood, both, before_all, second)
 
   -- what moves each alike moves all alike
   pub moved_alike : (ys zs xs : List Entry) → ((x : Entry) → rebased_entry key_cols ys x ≡ rebased_entry key_cols zs x)

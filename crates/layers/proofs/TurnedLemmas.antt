@@ -2,7 +2,6 @@
 use Rattle.std.proofs.Common.{◌≡◌, ◌⊎◌, inl, inr, ℕ, zero, suc, ◌<◌, ◌≤◌, Bool, cond, ◌&&◌, T, Option, Some, None, is_some, List, [], ◌∷◌}
 use Rattle.std.proofs.Common.{nat_cmp, Ordering, Less, Equal, Greater, is_lt, is_eq, refl, sym, ap, ◌∙◌, subst, arith}
 use Rattle.std.specs.Prelude.{◌==◌, IfSome, IsNone, slice_get}
-use Rattle.std.specs.Bool.{passes}
 use Rattle.std.specs.List.{list_all}
 use Rattle.std.specs.Ordering.{eq_by_cmp}
 use Rattle.std.specs.Cmp.{ranked, tied_itself}
@@ -19,7 +18,7 @@ use Rattle.model.specs.declared.entry.Entry.{Entry}
 use Rattle.model.specs.declared.entry.Change.{Change}
 use Rattle.model.specs.declared.entry.Change.TheVariants.{Ins, Del, Mod}
 use Rattle.model.specs.Clashes.{Conflicts}
-use Rattle.model.specs.Entries.{canonical_entries, entry_cmp, are_ordered}
+use Rattle.model.specs.Entries.{entry_cmp, are_ordered}
 use Rattle.model.specs.Rebasing.{columns_clash, clash_of_changes, clash_of_entries, first_clash, AreClashing, IsLeastClash}
 use Rattle.model.proofs.CallerLemmas.{first, second, less, turn_less, turn_greater, first_clash-least, ordered}
 use Rattle.delta.specs.Tree.{Tree}
@@ -30,6 +29,7 @@ use Rattle.layers.proofs.ClashLemmas.{unclashed_entry, tied_entry}
 use Rattle.layers.proofs.PassLemmas.{tested, still}
 use Rattle.layers.proofs.SerialLemmas.{holds_at, each, cols_x, cols_y, list_x, list_y, conflicting}
 use Rattle.delta.proofs.CallerLemmas.{greater}
+use Rattle.std.proofs.lemmas.Grind.{common_steps}
 
 -- ---- clashes are the same either way
 
@@ -54,13 +54,8 @@ ordered_at : (key_cols n m : ℕ) (es : List Entry) (e z : Entry) → T (are_ord
     → n < m → entry_cmp key_cols e z ≡ Less
 ordered_at key_cols n m [] e z o p q lt = cc
 ordered_at key_cols n zero (a ∷ es) e z o p q lt = absurd (omega (arith, lt))
-ordered_at key_cols zero (suc m) (a ∷ es) e z o p q lt =
-    let here : a ≡ e = cc in
-    let all = first (list_all (λ y. is_lt (entry_cmp key_cols a y)) es) (are_ordered key_cols es) o in
-    ap (λ b. entry_cmp key_cols b z) (sym here) ∙ less _ (holds_at (λ y. is_lt (entry_cmp key_cols a y)) m es z all q)
-ordered_at key_cols (suc n) (suc m) (a ∷ es) e z o p q lt =
-    ordered_at key_cols n m es e z (second (list_all (λ y. is_lt (entry_cmp key_cols a y)) es) (are_ordered key_cols es) o) p q
-    (omega (arith, lt))
+ordered_at key_cols zero (suc m) (a ∷ es) e z o p q lt = grind (arith, common_steps, first, less, holds_at)
+ordered_at key_cols (suc n) (suc m) (a ∷ es) e z o p q lt = grind (arith, common_steps, ordered_at key_cols n m es e z (second (list_all (λ y. is_lt (entry_cmp key_cols a y)) es) (are_ordered key_cols es) o) p q (omega (arith, lt)), second)
 
 module _ (rule : ConflictRule) (key_cols : ℕ) where
   changes_turn : (here : Bool) (c d : Change) → clash_of_changes rule key_cols here c d ≡ clash_of_changes rule key_cols here d c
@@ -76,19 +71,11 @@ module _ (rule : ConflictRule) (key_cols : ℕ) where
   changes_turn here (Mod col value) (Mod other w) = ap (λ b. cond (here && b) (Some ModifyModify) None) (columns_turn rule col other)
 
   entries_turn : (x y : Entry) → clash_of_entries rule key_cols x y ≡ clash_of_entries rule key_cols y x
-  entries_turn x y =
-      ap (λ b. clash_of_changes rule key_cols b x.change y.change) (numbers_turn x.sid y.sid)
-      ∙ changes_turn (y.sid == x.sid) x.change y.change
+  entries_turn x y = grind (arith, common_steps, numbers_turn, changes_turn)
 
   clashing_turns : (xs ys : List Entry) (i j : ℕ) (kind : ClashKind) → AreClashing rule key_cols xs ys i j kind
       → AreClashing rule key_cols ys xs j i kind
-  clashing_turns xs ys i j kind h = record {
-    x = h.y;
-    y = h.x;
-    x_at = h.y_at;
-    y_at = h.x_at;
-    kind_is = entries_turn h.y h.x ∙ h.kind_is;
-  }
+  clashing_turns xs ys i j kind h = grind (arith, common_steps, entries_turn)
 
   -- of two entries in order and two others in order, the first doesn't clash with the last, and the second with the third,
   -- unless it clashes with the third
@@ -159,24 +146,16 @@ module _ (rule : ConflictRule) (x y : Tree) (w : AreAligned x y) where
   kc = w.schema.key_cols
 
   x_ordered : T (are_ordered kc x.entries)
-  x_ordered =
-      subst (λ (es : List Entry). T (are_ordered kc es)) (sym (list_x rule x y w))
-      (passes (are_ordered kc (canonical_entries w.t w.x)) (ordered w.schema w.t w.x w.x_is.over).ordered)
+  x_ordered = grind (arith, common_steps, list_x, ordered)
 
   y_ordered : T (are_ordered kc y.entries)
-  y_ordered =
-      subst (λ (es : List Entry). T (are_ordered kc es)) (sym (list_y rule x y w))
-      (passes (are_ordered kc (canonical_entries w.t w.y)) (ordered w.schema w.t w.y w.y_is.over).ordered)
+  y_ordered = grind (arith, common_steps, list_y, ordered)
 
   x_ranked : T (list_all (is_ranked kc w.t) x.entries)
-  x_ranked =
-      subst (λ (es : List Entry). T (list_all (is_ranked kc w.t) es)) (sym (list_x rule x y w))
-      (ranked-canonical_entries kc w.t w.x (each w.schema w.t w.x x w.x_is w.small.rows))
+  x_ranked = grind (arith, common_steps, is_ranked, list_x, ranked-canonical_entries, each)
 
   y_ranked : T (list_all (is_ranked kc w.t) y.entries)
-  y_ranked =
-      subst (λ (es : List Entry). T (list_all (is_ranked kc w.t) es)) (sym (list_y rule x y w))
-      (ranked-canonical_entries kc w.t w.y (each w.schema w.t w.y y w.y_is w.small.rows))
+  y_ranked = grind (arith, common_steps, is_ranked, list_y, ranked-canonical_entries, each)
 
   all_agree : (j : ℕ) (e : Entry) → slice_get y.entries j ≡ Some e → T (list_all (agrees kc e) x.entries)
   all_agree j e at = agree_all kc w.t e x.entries (holds_at (is_ranked kc w.t) j y.entries e y_ranked at) x_ranked

@@ -1,30 +1,26 @@
 -- Steps of the walk that folds one tree into another.
-use Rattle.std.proofs.Common.{◌≡◌, ℕ, ◌+◌, ◌-◌, ◌<◌, ◌≤◌, ◌^◌, Bool, true, false, cond, Some, None, List, [], ◌∷◌, ◌++◌, length, drop, nat_cmp}
-use Rattle.std.proofs.Common.{map, Ordering, Less, Equal, Greater, refl, sym, ap, ◌∙◌, subst, arith}
+use Rattle.std.proofs.Common.{◌≡◌, ℕ, ◌+◌, ◌<◌, ◌≤◌, ◌^◌, Some, None, List, [], ◌∷◌, ◌++◌, length, drop, rules}
+use Rattle.std.proofs.Common.{map, refl, sym, ap, ◌∙◌, subst, arith}
 use Rattle.std.specs.Prelude.{slice_get}
 use Rattle.std.specs.List.{All}
-use Rattle.std.specs.Ordering.{is_gt}
 use Rattle.std.proofs.lemmas.List.{append_assoc}
 use Rattle.std.proofs.lemmas.List.Elements.{All-tail, All-weaker}
-use Rattle.values.specs.Orders.{key_cmp}
-use Rattle.values.specs.Shape.{key_of}
 use Rattle.model.specs.declared.entry.Entry.{Entry}
-use Rattle.model.specs.declared.entry.Change.{Change}
-use Rattle.model.specs.declared.entry.Change.TheVariants.{Ins, Del, Mod}
 use Rattle.model.specs.Entries.{entry_at, canonical_entries, IsLawful}
 use Rattle.model.specs.Effects.{table_with}
 use Rattle.model.specs.Composition.{composed_effects}
 use Rattle.model.specs.Laws.{FoldsToComposed}
 use Rattle.model.proofs.CallerLemmas.{composes, ordered}
 use Rattle.delta.specs.Tree.{Tree}
-use Rattle.model.specs.Folding.{Meeting, Upper, Lower, Over, Neither, Into, columns_meet, changes_meet, positions_meet, meet, added_by}
-use Rattle.model.specs.Folding.{gone_by, lowered_entry, fold_one, fold_from, folded_entries}
+use Rattle.model.specs.Folding.{meet, added_by}
+use Rattle.model.specs.Folding.{gone_by, lowered_entry, fold_from, folded_entries}
 use Rattle.layers.specs.Over.{AreConsecutive}
 use Rattle.layers.specs.Propagation.{composed_tree}
 use Rattle.layers.proofs.RestLemmas.{entries_few}
 use Rattle.layers.specs.declared.meeting.Meeting.{Meeting as Met}
 use Rattle.layers.specs.declared.meeting.Meeting.TheVariants as met
 use Rattle.layers.specs.Walk.{meeting_of, changed_by}
+use Rattle.std.proofs.lemmas.Grind.{common_steps}
 
 -- the first entry and the others
 pub ahead_is : (us : List Entry) (u : Entry) → slice_get us 0 ≡ Some u → us ≡ u ∷ drop 1 us
@@ -42,43 +38,12 @@ placed_left (z ∷ us) h = All-tail (λ e. e.sid < 2 ^ 32) z us h
 -- an upper entry past all lower ones
 pub puts_upper : (key_cols added gone : ℕ) (out us : List Entry) (u : Entry) → slice_get us 0 ≡ Some u
     → (out ++ lowered_entry added gone u ∷ []) ++ fold_from key_cols [] added gone (drop 1 us) ≡ out ++ fold_from key_cols [] added gone us
-puts_upper key_cols added gone out us u is =
-    append_assoc out (lowered_entry added gone u ∷ []) (fold_from key_cols [] added gone (drop 1 us))
-    ∙ ap (λ es. out ++ fold_from key_cols [] added gone es) (sym (ahead_is us u is))
-
--- the lower entry as the upper one changes it
-into_is : (key_cols : ℕ) (lower upper c : Change) → changes_meet key_cols lower upper ≡ Into c → c ≡ changed_by lower upper
-into_is key_cols (Ins row) (Ins new) c is = cc
-into_is key_cols (Ins row) (Del key) c is = cc
-into_is key_cols (Ins row) (Mod col value) c is = cc
-into_is key_cols (Del key) (Ins new) c is = by (is_gt (key_cmp (key_of key_cols new) key)) is
-  where
-    by : (b : Bool) → cond b Lower Upper ≡ Into c → c ≡ Del key
-    by true h = cc
-    by false h = cc
-into_is key_cols (Del key) (Del other) c is = cc
-into_is key_cols (Del key) (Mod col value) c is = cc
-into_is key_cols (Mod col value) (Ins new) c is = cc
-into_is key_cols (Mod col value) (Del key) c is = cc
-into_is key_cols (Mod col value) (Mod other new) c is = by (nat_cmp other col) is
-  where
-    by : (r : Ordering) → columns_meet r ≡ Into c → c ≡ changed_by (Mod col value) (Mod other new)
-    by Less h = cc
-    by Equal h = cc
-    by Greater h = cc
-
-into_there : (key_cols : ℕ) (r : Ordering) (lower upper c : Change) → positions_meet key_cols r lower upper ≡ Into c
-    → c ≡ changed_by lower upper
-into_there key_cols Less lower upper c is = cc
-into_there key_cols Equal lower upper c is = into_is key_cols lower upper c is
-into_there key_cols Greater lower upper c is = cc
+puts_upper key_cols added gone out us u is = grind (arith, common_steps)
 
 -- over a lower tree with no entries
 lowered_none : (us : List Entry) → us ≡ map (lowered_entry 0 0) us
 lowered_none [] = refl
-lowered_none (u ∷ us) =
-    let stays : u.sid ≡ (u.sid + 0) - 0 = omega arith in
-    λ i. entry_at (stays i) u.change ∷ lowered_none us i
+lowered_none (u ∷ us) = grind (arith, common_steps, lowered_none us)
 
 pub folds_into_none : (key_cols : ℕ) (lowers uppers : List Entry) → length lowers ≡ 0 → uppers ≡ folded_entries key_cols lowers uppers
 folds_into_none key_cols [] uppers none = lowered_none uppers
@@ -100,30 +65,7 @@ module _ (key_cols added gone : ℕ) (own u : Entry) (lowers us : List Entry) wh
   IsMet met.Into = both_ahead ≡ fold_from key_cols (entry_at own.sid (changed_by own.change u.change) ∷ lowers) added gone us
 
   pub meets : (kind : Met) → kind ≡ meeting_of (meet key_cols added gone own u) → IsMet kind
-  meets kind is = subst IsMet (sym is) (by (meet key_cols added gone own u) refl)
-    where
-      rest : ℕ → ℕ → List Entry → List Entry
-      rest = fold_from key_cols lowers
-
-      outcome : Meeting → List Entry
-      outcome m =
-          elim m as (λ _. List Entry) [
-            | Upper ↦ lowered_entry added gone u ∷ fold_one key_cols own rest added gone us
-            | Lower ↦ own ∷ rest (added + added_by own.change) (gone + gone_by own.change) (u ∷ us)
-            | Over ↦ rest added gone (u ∷ us)
-            | Neither ↦ rest (added + added_by own.change) (gone + gone_by own.change) us
-            | Into change ↦ fold_one key_cols (entry_at own.sid change) rest added gone us
-          ]
-
-      by : (m : Meeting) → meet key_cols added gone own u ≡ m → IsMet (meeting_of m)
-      by Upper e = ap outcome e
-      by Lower e = ap outcome e
-      by Over e = ap outcome e
-      by Neither e = ap outcome e
-      by (Into c) e =
-          ap outcome e
-          ∙ ap (λ (d : Change). fold_from key_cols (entry_at own.sid d ∷ lowers) added gone us)
-          (into_there key_cols (nat_cmp (u.sid + gone) (own.sid + added)) own.change u.change c e)
+  meets kind is = search rules
 
 -- and what is put then, whatever lower entries follow
 module _ (key_cols added gone : ℕ) (own : Entry) (out us : List Entry) where
@@ -134,10 +76,7 @@ module _ (key_cols added gone : ℕ) (own : Entry) (out us : List Entry) where
   after lowers es = fold_from key_cols lowers (added + added_by own.change) (gone + gone_by own.change) es
 
   pub puts_last : us ≡ [] → (lowers : List Entry) → (out ++ own ∷ []) ++ after lowers us ≡ to_come lowers
-  puts_last none lowers =
-      ap (λ es. (out ++ own ∷ []) ++ after lowers es) none
-      ∙ append_assoc out (own ∷ []) (after lowers [])
-      ∙ ap (λ es. out ++ fold_from key_cols (own ∷ lowers) added gone es) (sym none)
+  puts_last none lowers = grind (arith, common_steps)
 
   module _ (u : Entry) (at : slice_get us 0 ≡ Some u) where
     abbrev pub Meets : Met → Type 0
@@ -149,23 +88,13 @@ module _ (key_cols added gone : ℕ) (own : Entry) (out us : List Entry) where
 
     pub upper_put : Meets met.Upper → (lowers : List Entry) →
         (out ++ lowered_entry added gone u ∷ []) ++ fold_from key_cols (own ∷ lowers) added gone (drop 1 us) ≡ to_come lowers
-    upper_put is lowers =
-        append_assoc out (lowered_entry added gone u ∷ []) (fold_from key_cols (own ∷ lowers) added gone (drop 1 us))
-        ∙ ap (λ es. out ++ es) (sym (all_is lowers ∙ meets key_cols added gone own u lowers (drop 1 us) met.Upper is))
+    upper_put is lowers = grind (arith, common_steps)
 
     pub lower_put : Meets met.Lower → (lowers : List Entry) → (out ++ own ∷ []) ++ after lowers us ≡ to_come lowers
-    lower_put is lowers =
-        append_assoc out (own ∷ []) (after lowers us)
-        ∙ ap (λ es. out ++ own ∷ after lowers es) (ahead_is us u at)
-        ∙ ap (λ es. out ++ es) (sym (all_is lowers ∙ meets key_cols added gone own u lowers (drop 1 us) met.Lower is))
+    lower_put is lowers = grind (arith, common_steps, append_assoc, ahead_is, all_is, meets)
 
     pub lower_over : Meets met.Over → (lowers : List Entry) → out ++ fold_from key_cols lowers added gone us ≡ to_come lowers
-    lower_over is lowers =
-        ap (λ es. out ++ fold_from key_cols lowers added gone es) (ahead_is us u at)
-        ∙ ap (λ es. out ++ es) (sym (all_is lowers ∙ meets key_cols added gone own u lowers (drop 1 us) met.Over is))
-
-    pub neither_put : Meets met.Neither → (lowers : List Entry) → out ++ after lowers (drop 1 us) ≡ to_come lowers
-    neither_put is lowers = ap (λ es. out ++ es) (sym (all_is lowers ∙ meets key_cols added gone own u lowers (drop 1 us) met.Neither is))
+    lower_over is lowers = grind (arith, common_steps, ahead_is, all_is, meets)
 
     pub into_own : Meets met.Into → (lowers : List Entry) →
         out ++ fold_from key_cols (entry_at own.sid (changed_by own.change u.change) ∷ lowers) added gone (drop 1 us) ≡ to_come lowers

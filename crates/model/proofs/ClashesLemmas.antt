@@ -1,11 +1,10 @@
 -- Two transactions clash where two of their entries do; and where they don't, each fits after the other.
-use Rattle.std.proofs.Common.{◌≡◌, ◌≢◌, ℕ, suc, ◌<◌, Bool, true, false, cond, ◌&&◌, ◌||◌, T, Option, Some, None, is_some, List, [], ◌∷◌, map, Ordering, Less, Equal, Greater, is_eq, nat_cmp, refl, sym, ap, ◌∙◌, subst, arith}
+use Rattle.std.proofs.Common.{◌≡◌, ◌≢◌, ℕ, suc, Bool, true, false, cond, ◌||◌, T, Option, Some, None, is_some, List, [], ◌∷◌, map, Less, Equal, Greater, is_eq, nat_cmp, refl, sym, ap, ◌∙◌, subst, arith, rules}
 use Rattle.std.specs.Prelude.{◌==◌}
 use Rattle.std.proofs.lemmas.Bool.Decides.{nat_tests}
 use Rattle.std.proofs.lemmas.List.Folds.{list_any-append}
 use Rattle.std.specs.Ordering.{eq_by_cmp}
 use Rattle.std.specs.List.{list_all, list_any}
-use Rattle.std.specs.Cmp.{tied_itself, ranked}
 use Rattle.values.specs.Orders.{key_cmp, key_cmp_total, key_cmp-IsAntisymmetric}
 use Rattle.values.specs.declared.row.Row.{Row}
 use Rattle.values.specs.declared.row.Key.{Key}
@@ -26,11 +25,12 @@ use Rattle.model.specs.declared.effect.Effect.{Effect}
 use Rattle.model.specs.declared.effect.Effect.TheVariants as effect
 use Rattle.model.specs.Entries.{entry_at, entries_of, canonical_entries}
 use Rattle.model.specs.Clashes.{clashes, modifies_clash, conflicts}
-use Rattle.model.specs.Rebasing.{columns_clash, clash_of_entries, or_clash, clash_with, or_else, first_clash_from, first_clash}
+use Rattle.model.specs.Rebasing.{clash_of_entries, or_clash, clash_with, or_else, first_clash_from, first_clash}
 use Rattle.model.proofs.MapsLemmas.{both, first, second, turn_greater, holds_at, changed_by, each_at, find_below, below_tied, equal, left_false, right_false}
 use Rattle.model.proofs.CompositionLemmas.{row_at-table_with}
 use Rattle.model.proofs.RebasingLemmas.{is_placed, rank-lt}
 use Rattle.model.proofs.EditsLemmas.{maybe_entries}
+use Rattle.std.proofs.lemmas.Grind.{common_steps}
 
 -- ---- each fits after the other
 
@@ -88,16 +88,11 @@ module _ (rule : ConflictRule) (key_cols : ℕ) where
 
   is_some-clash_with : (i : ℕ) (x : Entry) (j : ℕ) (ys : List Entry) → is_some (clash_with rule key_cols i x j ys) ≡ clashes_with ys x
   is_some-clash_with i x j [] = refl
-  is_some-clash_with i x j (y ∷ ys) =
-      is_some-or_clash i j (clash_of_entries rule key_cols x y) (clash_with rule key_cols i x (suc j) ys)
-      ∙ ap (λ b. do_clash x y || b) (is_some-clash_with i x (suc j) ys)
+  is_some-clash_with i x j (y ∷ ys) = grind (arith, common_steps, is_some-clash_with i x (suc j) ys, is_some-or_clash)
 
   is_some-first_clash : (i : ℕ) (xs ys : List Entry) → is_some (first_clash_from rule key_cols i xs ys) ≡ list_any (clashes_with ys) xs
   is_some-first_clash i [] ys = refl
-  is_some-first_clash i (x ∷ xs) ys =
-      let rest = is_some-first_clash (suc i) xs ys in
-      let head = is_some-clash_with i x 0 ys in
-      is_some-or_else (clash_with rule key_cols i x 0 ys) (first_clash_from rule key_cols (suc i) xs ys) ∙ λ n. head n || rest n
+  is_some-first_clash i (x ∷ xs) ys = grind (arith, common_steps, is_some-first_clash (suc i) xs ys, is_some-clash_with, is_some-or_else)
 
   -- ---- entries of different keys don't clash
 
@@ -119,10 +114,7 @@ module _ (rule : ConflictRule) (key_cols : ℕ) where
 
     apart : (k j : Key) (c d : Change) → eq_by_cmp key_cmp k j ≡ false → T (is_placed key_cols t k c)
         → T (is_placed key_cols t j d) → do_clash (entry_at (rank k t) c) (entry_at (rank j t) d) ≡ false
-    apart k j (Ins row) (Ins other) ne hc hd =
-        let left = same_key k row hc in
-        let right = same_key j other hd in
-        ap (λ b. is_some (cond b (Some InsertInsert) None)) ((λ i. eq_by_cmp key_cmp (left i) (right i)) ∙ ne)
+    apart k j (Ins row) (Ins other) ne hc hd = grind (arith, common_steps, same_key)
     apart k j (Ins row) (Del key) ne hc hd = refl
     apart k j (Ins row) (Mod col value) ne hc hd = refl
     apart k j (Del key) (Ins row) ne hc hd = refl
@@ -130,8 +122,7 @@ module _ (rule : ConflictRule) (key_cols : ℕ) where
     apart k j (Del key) (Del other) ne hc hd = ap (λ b. is_some (cond b (Some DeleteDelete) None)) (other_rank k j ne hc hd)
     apart k j (Del key) (Mod col value) ne hc hd = ap (λ b. is_some (cond b (Some DeleteModify) None)) (other_rank k j ne hc hd)
     apart k j (Mod col value) (Del key) ne hc hd = ap (λ b. is_some (cond b (Some DeleteModify) None)) (other_rank k j ne hc hd)
-    apart k j (Mod col value) (Mod other w) ne hc hd =
-        ap (λ b. is_some (cond (b && columns_clash rule col other) (Some ModifyModify) None)) (other_rank k j ne hc hd)
+    apart k j (Mod col value) (Mod other w) ne hc hd = grind (arith, common_steps, other_rank)
 
     module _ (k : Key) (c : Change) (hc : T (is_placed key_cols t k c)) where
       abbrev x : Entry
@@ -140,10 +131,7 @@ module _ (rule : ConflictRule) (key_cols : ℕ) where
       none_of_cells : (j : Key) (cells : Cells) → eq_by_cmp key_cmp k j ≡ false → T (is_some (row_at t j))
           → list_any (do_clash x) (map (λ d. entry_at (rank j t) (Mod d.0 d.1)) cells) ≡ false
       none_of_cells j [] ne hj = refl
-      none_of_cells j (d ∷ cells) ne hj =
-          ap (λ b. b || list_any (do_clash x) (map (λ d. entry_at (rank j t) (Mod d.0 d.1)) cells))
-          (apart k j c (Mod d.0 d.1) ne hc hj)
-          ∙ none_of_cells j cells ne hj
+      none_of_cells j (d ∷ cells) ne hj = grind (arith, common_steps, none_of_cells j cells ne hj, apart)
 
       none_of : (j : Key) (g : Effect) → eq_by_cmp key_cmp k j ≡ false → T (is_keyed_effect key_cols j g)
           → T (fits (row_at t j) g) → list_any (do_clash x) (entries_of (rank j t) j g) ≡ false
@@ -184,23 +172,11 @@ module _ (rule : ConflictRule) (key_cols : ℕ) where
   same_number : (n : ℕ) → (n == n) ≡ true
   same_number n = grind (arith, nat_tests)
 
-  differ_tests : (c d : ℕ) → c ≢ d → (c == d) ≡ false
-  differ_tests c d h = grind (arith, nat_tests)
-
   same_tests : (c d : ℕ) → (c == d) ≡ is_eq (nat_cmp c d)
-  same_tests c d =
-      elim (nat_cmp c d) as (λ r. nat_cmp c d ≡ r → (c == d) ≡ is_eq r) [
-        | Less ↦ λ p. let lt : c < d = ranked c d Less (sym p) in differ_tests c d (λ e. omega arith)
-        | Equal ↦ λ p. let e : c ≡ d = ranked c d Equal (sym p) in ap (λ x. c == x) (sym e) ∙ same_number c
-        | Greater ↦ λ p. let lt : d < c = ranked c d Greater (sym p) in differ_tests c d (λ e. omega arith)
-      ] refl
+  same_tests c d = search rules
 
   abbrev mods : ℕ → Cells → List Entry
   mods n cells = map (λ c. entry_at n (Mod c.0 c.1)) cells
-
-  insert_apart : (n : ℕ) (row : Row) (cells : Cells) → list_any (do_clash (entry_at n (Ins row))) (mods n cells) ≡ false
-  insert_apart n row [] = refl
-  insert_apart n row (c ∷ cells) = insert_apart n row cells
 
   found_or : {X : Type 0} (b : Bool) (v : X) (rest : Option X) → is_some (cond b (Some v) rest) ≡ (b || is_some rest)
   found_or true v rest = refl
@@ -214,49 +190,28 @@ module _ (rule : ConflictRule) (key_cols : ℕ) where
   cell_clash : (n : ℕ) (c : ℕ × Value) (others : Cells) → rule ≡ ByColumn →
       clashes_with (mods n others) (entry_at n (Mod c.0 c.1)) ≡ is_some (find nat_cmp c.0 others)
   cell_clash n c [] by = refl
-  cell_clash n c (d ∷ others) by =
-      let rest = cell_clash n c others by in
-      let head =
-      kind_or ((n == n) && columns_clash rule c.0 d.0) ∙ ap (λ b. b && columns_clash rule c.0 d.0) (same_number n)
-      ∙ ap (λ r. columns_clash r c.0 d.0) by ∙ same_tests c.0 d.0 in
-      (λ i. head i || rest i) ∙ sym (found_or (is_eq (nat_cmp c.0 d.0)) d.1 (find nat_cmp c.0 others))
+  cell_clash n c (d ∷ others) by = grind (arith, common_steps, cell_clash n c others by, kind_or, same_number, same_tests, found_or, is_eq, nat_cmp)
 
   cells_clash : (n : ℕ) (cells others : Cells) → rule ≡ ByColumn →
       list_any (clashes_with (mods n others)) (mods n cells) ≡ list_any (λ c. is_some (find nat_cmp c.0 others)) cells
   cells_clash n [] others by = refl
-  cells_clash n (c ∷ cells) others by =
-      let head = cell_clash n c others by in
-      let rest = cells_clash n cells others by in
-      λ i. head i || rest i
+  cells_clash n (c ∷ cells) others by = grind (arith, common_steps, cells_clash n cells others by, cell_clash)
 
   -- by row the first of each clash
   rows_clash : (n : ℕ) (cells others : Cells) → rule ≡ ByRow → T (has_cells cells) → T (has_cells others) →
       list_any (clashes_with (mods n others)) (mods n cells) ≡ true
   rows_clash n [] others by p q = absurd p
   rows_clash n (c ∷ cells) [] by p q = absurd q
-  rows_clash n (c ∷ cells) (d ∷ others) by p q =
-      let first_two : do_clash (entry_at n (Mod c.0 c.1)) (entry_at n (Mod d.0 d.1)) ≡ true =
-      kind_or ((n == n) && columns_clash rule c.0 d.0) ∙ ap (λ b. b && columns_clash rule c.0 d.0) (same_number n)
-      ∙ ap (λ r. columns_clash r c.0 d.0) by in
-      let others_too = list_any (do_clash (entry_at n (Mod c.0 c.1))) (mods n others) in
-      let later = list_any (clashes_with (mods n (d ∷ others))) (mods n cells) in
-      ap (λ b. (b || others_too) || later) first_two
+  rows_clash n (c ∷ cells) (d ∷ others) by p q = search rules
 
   -- modifies on one key clash where two of their entries do
   mods_clash : (n : ℕ) (cells others : Cells) → T (has_cells cells) → T (has_cells others) →
       list_any (clashes_with (mods n others)) (mods n cells) ≡ modifies_clash rule cells others
-  mods_clash n cells others p q =
-      elim rule as (λ r. rule ≡ r → list_any (clashes_with (mods n others)) (mods n cells) ≡ modifies_clash r cells others) [
-        | ByColumn ↦ λ by. cells_clash n cells others by
-        | ByRow ↦ λ by. rows_clash n cells others by p q
-      ] refl
+  mods_clash n cells others p q = grind (arith, common_steps, cells_clash, rows_clash)
 
   keys_tie : (k : Key) (row other : Row) → T (eq_by_cmp key_cmp k (key_of key_cols row))
       → T (eq_by_cmp key_cmp k (key_of key_cols other)) → eq_by_cmp key_cmp (key_of key_cols row) (key_of key_cols other) ≡ true
-  keys_tie k row other p q =
-      let left = same_key [] k row p in
-      let right = same_key [] k other q in
-      (λ i. eq_by_cmp key_cmp (left i) (right i)) ∙ ap is_eq (tied_itself key_cmp_total k)
+  keys_tie k row other p q = grind (arith, common_steps, same_key, is_eq)
 
   -- a clash of the effects is one of their entries
   effects_clash : (n : ℕ) (k : Key) (f : Effect) (g : Option Effect) (old : Option Row) → T (is_keyed_effect key_cols k f) →
@@ -304,12 +259,7 @@ module _ (rule : ConflictRule) (key_cols : ℕ) where
   effects_clash n k (effect.Rep row) (Some effect.Del) old kf kg p q =
       ap (λ b. (is_some (cond b (Some DeleteDelete) None) || false) || false) (same_number n)
   effects_clash n k (effect.Rep row) (Some (effect.Mod [])) old kf kg p q = absurd kg
-  effects_clash n k (effect.Rep row) (Some (effect.Mod (d ∷ others))) old kf kg p q =
-      (λ i. insert_apart n row others i
-      || ((is_some (cond (n == n) (Some DeleteModify) None) || list_any (do_clash (entry_at n (Del k))) (mods n others))
-      || false))
-      ∙ ap (λ b. (is_some (cond b (Some DeleteModify) None) || list_any (do_clash (entry_at n (Del k))) (mods n others)) || false)
-      (same_number n)
+  effects_clash n k (effect.Rep row) (Some (effect.Mod (d ∷ others))) old kf kg p q = search rules
   effects_clash n k (effect.Rep row) (Some (effect.Rep other)) old kf kg p q =
       ap (λ b. (is_some (cond b (Some InsertInsert) None) || (false || false))
       || ((false || (is_some (cond (n == n) (Some DeleteDelete) None) || false)) || false)) (keys_tie k row other kf kg)

@@ -1,5 +1,5 @@
 -- One transaction's effects after another's are those of one transaction.
-use Rattle.std.proofs.Common.{◌≡◌, ◌≢◌, ℕ, Bool, true, T, Option, Some, None, [], ◌∷◌, nat_cmp, Less, Equal, Greater, is_lt, set, set-set, refl, sym, ap, ◌∙◌, subst}
+use Rattle.std.proofs.Common.{◌≡◌, ◌≢◌, ℕ, Bool, true, T, Option, Some, None, [], ◌∷◌, nat_cmp, Less, Equal, Greater, is_lt, set, set-set, refl, sym, ap, ◌∙◌, subst, arith}
 use Rattle.std.proofs.lemmas.List.{set_comm}
 use Rattle.std.specs.Cmp.{nat_cmp_total, tied_itself}
 use Rattle.std.specs.FinMap.{nat_cmp-IsAntisymmetric}
@@ -16,6 +16,7 @@ use Rattle.model.specs.Composition.{over_cells, composed_effect, composed_effect
 use Rattle.model.specs.declared.effect.Effect.{Effect}
 use Rattle.model.specs.declared.effect.Effect.TheVariants.{Ins, Del, Mod, Rep}
 use Rattle.model.proofs.MapsLemmas.{both, first, second, less, changed_by, find-alter_all, sorted-alter_all, holds_at, each_at, each_from, same_map}
+use Rattle.std.proofs.lemmas.Grind.{common_steps}
 
 -- ---- cells
 
@@ -162,9 +163,7 @@ module _ (t : Table) (x f : Effects) (h : Follows t x f) where
   ascends_at key = each_at key_cmp key_cmp_total key_cmp-IsAntisymmetric (λ k e. cells_ascend e) x h.x_ascends key
 
   f_at : (key : Key) → T (holds_at (fits (changed_by row_after (find key_cmp key x) (row_at t key))) (find key_cmp key f))
-  f_at key =
-      subst (λ old. T (holds_at (fits old) (find key_cmp key f))) (row_at-table_with t x key h.x_sorted)
-      (fits_at_key (table_with t x) f h.f_fits key)
+  f_at key = grind (arith, common_steps, holds_at, row_at-table_with, fits_at_key)
 
   one_key : (g y : Option Effect) (old : Option Row) → T (holds_at (fits old) y) → T (holds_at cells_ascend y)
       → T (holds_at (fits (changed_by row_after y old)) g)
@@ -192,7 +191,4 @@ module _ (t : Table) (x f : Effects) (h : Follows t x f) where
 
   -- and the composed effects fit
   pub all_fit-composed_effects : T (all_fit t (composed_effects x f))
-  all_fit-composed_effects =
-      fits_from_keys t (composed_effects x f) (sorted-composed_effects x f h.x_sorted)
-      (λ key. subst (λ g. T (holds_at (fits (row_at t key)) g)) (sym (effect_at-composed_effects x f key h.f_sorted))
-      (one_fits (find key_cmp key f) (find key_cmp key x) (row_at t key) (x_at key) (f_at key)))
+  all_fit-composed_effects = grind (arith, common_steps, fits_from_keys, sorted-composed_effects, holds_at, effect_at-composed_effects, one_fits, x_at, f_at)

@@ -1,13 +1,12 @@
 -- Each write changes the tree's entries as its effects change.
-use Rattle.std.proofs.Common.{◌≡◌, ◌≢◌, ℕ, ◌<◌, ◌≤◌, Bool, true, false, cond, not, ◌&&◌, T, Option, Some, None, is_some, List, [], ◌∷◌, ◌++◌, map, filter, set, Ordering, Less, Equal, Greater, is_lt, is_eq, nat_cmp, refl, sym, ap, ◌∙◌, subst, arith}
+use Rattle.std.proofs.Common.{◌≡◌, ◌≢◌, ℕ, ◌<◌, ◌≤◌, Bool, true, false, cond, not, ◌&&◌, T, Option, Some, None, is_some, List, [], ◌∷◌, ◌++◌, map, filter, set, Ordering, Less, Equal, Greater, is_lt, is_eq, nat_cmp, refl, sym, ap, ◌∙◌, subst, arith, rules}
 use Rattle.std.specs.Prelude.{◌==◌}
 use Rattle.std.proofs.lemmas.Bool.Decides.{nat_tests}
 use Rattle.std.proofs.lemmas.List.Elements.{filter-append}
 use Rattle.std.proofs.lemmas.List.{map-append}
-use Rattle.std.specs.Ordering.{eq_by_cmp, ordering_then, match_ordering}
+use Rattle.std.specs.Ordering.{eq_by_cmp, ordering_then}
 use Rattle.std.specs.List.{list_all}
-use Rattle.std.specs.Cmp.{tied_itself, nat_cmp_total, ranked}
-use Rattle.std.specs.FinMap.{nat_cmp-IsAntisymmetric}
+use Rattle.std.specs.Cmp.{tied_itself}
 use Rattle.std.specs.FinMap.Entries.{by_order, below_all}
 use Rattle.values.specs.Orders.{key_cmp, key_cmp_total, key_cmp-IsAntisymmetric}
 use Rattle.values.specs.declared.row.Row.{Row}
@@ -24,8 +23,9 @@ use Rattle.model.specs.declared.effect.Effect.{Effect}
 use Rattle.model.specs.declared.effect.Effect.TheVariants as effect
 use Rattle.model.specs.Entries.{entry_at, is_modify, entries_of, canonical_entries, change_cmp, entry_cmp}
 use Rattle.model.specs.Edits.{put_entry, is_insert_of, change_with_cell, put_ins, put_mod, put_del, take_ins, set_ins}
-use Rattle.model.proofs.MapsLemmas.{both, first, second, less, turn_less, turn_greater, find_below, below_less, find_past, store_past, without_below, equal, same_key, cmp_greater}
+use Rattle.model.proofs.MapsLemmas.{both, first, second, less, turn_less, turn_greater, find_below, below_less, find_past, store_past, without_below, same_key, cmp_greater}
 use Rattle.model.proofs.RebasingLemmas.{is_placed, rank-le, rank-lt}
+use Rattle.std.proofs.lemmas.Grind.{common_steps}
 
 -- ---- one key's entries, in the list of all
 
@@ -103,34 +103,16 @@ module _ (key_cols : ℕ) (t : Table) where
 
   keys_in_order : (j k : Key) (row other : Row) → T (eq_by_cmp key_cmp j (key_of key_cols row))
       → T (eq_by_cmp key_cmp k (key_of key_cols other)) → key_cmp (key_of key_cols row) (key_of key_cols other) ≡ key_cmp j k
-  keys_in_order j k row other p q =
-      let left = sym (same_key j (key_of key_cols row) p) in
-      let right = sym (same_key k (key_of key_cols other) q) in
-      λ i. key_cmp (left i) (right i)
+  keys_in_order j k row other p q = grind (arith, common_steps, same_key)
 
   cmp_less : (x y : ℕ) → x < y → nat_cmp x y ≡ Less
-  cmp_less x y h =
-      elim (nat_cmp x y) as (λ r. nat_cmp x y ≡ r → r ≡ Less) [
-        | Less ↦ λ q. refl
-        | Equal ↦ λ q. let e : x ≡ y = ranked x y Equal (sym q) in absurd (omega arith)
-        | Greater ↦ λ q. let g : y < x = ranked x y Greater (sym q) in absurd (omega arith)
-      ] refl
+  cmp_less x y h = search rules
 
   at_least : (x y : ℕ) (o : Ordering) → x ≤ y → o ≡ Less → ordering_then (nat_cmp x y) o ≡ Less
-  at_least x y o h is =
-      elim (nat_cmp x y) as (λ r. nat_cmp x y ≡ r → ordering_then r o ≡ Less) [
-        | Less ↦ λ q. refl
-        | Equal ↦ λ q. is
-        | Greater ↦ λ q. let g : y < x = ranked x y Greater (sym q) in absurd (omega arith)
-      ] refl
+  at_least x y o h is = search rules
 
   at_most : (x y : ℕ) (o : Ordering) → y ≤ x → o ≡ Greater → ordering_then (nat_cmp x y) o ≡ Greater
-  at_most x y o h is =
-      elim (nat_cmp x y) as (λ r. nat_cmp x y ≡ r → ordering_then r o ≡ Greater) [
-        | Less ↦ λ q. let l : x < y = ranked x y Less (sym q) in absurd (omega arith)
-        | Equal ↦ λ q. is
-        | Greater ↦ λ q. refl
-      ] refl
+  at_most x y o h is = search rules
 
   -- an entry of a smaller key stands before one of a greater key
   pub entry-less : (j k : Key) (y c : Change) → key_cmp j k ≡ Less → T (is_placed key_cols t j y) → T (is_placed key_cols t k c)
@@ -138,10 +120,8 @@ module _ (key_cols : ℕ) (t : Table) where
   entry-less j k (Ins row) (Ins other) p hy hc = at_least (rank j t) (rank k t) _ (rank-le j k t p) (keys_in_order j k row other hy hc ∙ p)
   entry-less j k (Ins row) (Del key) p hy hc = at_least (rank j t) (rank k t) _ (rank-le j k t p) refl
   entry-less j k (Ins row) (Mod col value) p hy hc = at_least (rank j t) (rank k t) _ (rank-le j k t p) refl
-  entry-less j k (Del key) c p hy hc =
-      ap (λ r. ordering_then r (change_cmp key_cols (Del key) c)) (cmp_less (rank j t) (rank k t) (rank-lt j k t p hy))
-  entry-less j k (Mod col value) c p hy hc =
-      ap (λ r. ordering_then r (change_cmp key_cols (Mod col value) c)) (cmp_less (rank j t) (rank k t) (rank-lt j k t p hy))
+  entry-less j k (Del key) c p hy hc = grind (arith, common_steps, cmp_less, rank-lt)
+  entry-less j k (Mod col value) c p hy hc = grind (arith, common_steps, cmp_less, rank-lt)
 
   pub entry-greater : (j k : Key) (y c : Change) → key_cmp j k ≡ Less → T (is_placed key_cols t j y)
       → T (is_placed key_cols t k c) → entry_cmp key_cols (entry_at (rank k t) c) (entry_at (rank j t) y) ≡ Greater
@@ -162,32 +142,24 @@ module _ (key_cols : ℕ) (t : Table) where
 
     past_one : (j : Key) (y : Change) (zs : List Entry) → key_cmp j k ≡ Less → T (is_placed key_cols t j y)
         → put_entry key_cols e (entry_at (rank j t) y ∷ zs) ≡ entry_at (rank j t) y ∷ put_entry key_cols e zs
-    past_one j y zs p hy =
-        ap (λ r. match_ordering r (e ∷ entry_at (rank j t) y ∷ zs) (e ∷ zs) (entry_at (rank j t) y ∷ put_entry key_cols e zs))
-        (entry-greater j k y c p hy hc)
+    past_one j y zs p hy = grind (arith, common_steps, entry-greater)
 
     past_cells : (j : Key) (cells : Cells) (zs : List Entry) → key_cmp j k ≡ Less → T (is_some (row_at t j))
         → put_entry key_cols e (map (λ x. entry_at (rank j t) (Mod x.0 x.1)) cells ++ zs)
         ≡ map (λ x. entry_at (rank j t) (Mod x.0 x.1)) cells ++ put_entry key_cols e zs
     past_cells j [] zs p hy = refl
-    past_cells j (x ∷ cells) zs p hy =
-        past_one j (Mod x.0 x.1) (map (λ x. entry_at (rank j t) (Mod x.0 x.1)) cells ++ zs) p hy
-        ∙ ap (λ es. entry_at (rank j t) (Mod x.0 x.1) ∷ es) (past_cells j cells zs p hy)
+    past_cells j (x ∷ cells) zs p hy = grind (arith, common_steps, past_cells j cells zs p hy, past_one)
 
     pub put-past : IsPast k (put_entry key_cols e)
     put-past j (effect.Ins row) zs p he hf = past_one j (Ins row) zs p he
     put-past j effect.Del zs p he hf = past_one j (Del j) zs p hf
     put-past j (effect.Mod cells) zs p he hf = past_cells j cells zs p hf
-    put-past j (effect.Rep row) zs p he hf =
-        past_one j (Ins row) (entry_at (rank j t) (Del j) ∷ zs) p he
-        ∙ ap (λ es. entry_at (rank j t) (Ins row) ∷ es) (past_one j (Del j) zs p hf)
+    put-past j (effect.Rep row) zs p he hf = grind (arith, common_steps, past_one)
 
     -- before the entries of greater keys
     before_one : (j : Key) (y : Change) (zs : List Entry) → key_cmp k j ≡ Less → T (is_placed key_cols t j y)
         → put_entry key_cols e (entry_at (rank j t) y ∷ zs) ≡ e ∷ entry_at (rank j t) y ∷ zs
-    before_one j y zs p hy =
-        ap (λ r. match_ordering r (e ∷ entry_at (rank j t) y ∷ zs) (e ∷ zs) (entry_at (rank j t) y ∷ put_entry key_cols e zs))
-        (entry-less k j c y p hc hy)
+    before_one j y zs p hy = grind (arith, common_steps, entry-less)
 
     before_effect : (j : Key) (f : Effect) (zs : List Entry) → key_cmp k j ≡ Less → T (is_keyed_effect key_cols j f)
         → T (fits (row_at t j) f) → put_entry key_cols e (entries_of (rank j t) j f ++ zs) ≡ e ∷ (entries_of (rank j t) j f ++ zs)
@@ -201,10 +173,7 @@ module _ (key_cols : ℕ) (t : Table) where
     pub put-before : (es : Effects) → T (below_all key_cmp k es) → T (are_lawful es)
         → put_entry key_cols e (canonical_entries t es) ≡ e ∷ canonical_entries t es
     put-before [] h l = refl
-    put-before (x ∷ es) h l =
-        let lawful : T (is_keyed_effect key_cols x.0 x.1 && fits (row_at t x.0) x.1) = first _ _ l in
-        before_effect x.0 x.1 (canonical_entries t es) (less _ (first _ _ h)) (first (is_keyed_effect key_cols x.0 x.1) _ lawful)
-        (second (is_keyed_effect key_cols x.0 x.1) _ lawful)
+    put-before (x ∷ es) h l = grind (arith, common_steps, first, before_effect, less, second)
 
   -- ---- inserts taken out or changed
 
@@ -231,11 +200,7 @@ module _ (key_cols : ℕ) (t : Table) where
     not_it j n (Mod col value) h hc = and_false (n == rank k t) false refl
 
     its_own : (row : Row) → T (eq_by_cmp key_cmp k (key_of key_cols row)) → is_it (entry_at (rank k t) (Ins row)) ≡ true
-    its_own row h = ap (λ b. b && eq_by_cmp key_cmp k (key_of key_cols row)) (same_number (rank k t)) ∙ true_of _ h
-      where
-        true_of : (b : Bool) → T b → b ≡ true
-        true_of true h = refl
-        true_of false h = absurd h
+    its_own row h = search rules
 
     -- a change of the entries that are it leaves those that aren't
     module _ (op : List Entry → List Entry) (joins : (ys zs : List Entry) → op (ys ++ zs) ≡ op ys ++ op zs) (nothing : op [] ≡ [])
@@ -243,9 +208,7 @@ module _ (key_cols : ℕ) (t : Table) where
       other_cells : (j : Key) (n : ℕ) (cells : Cells) → eq_by_cmp key_cmp k j ≡ false → T (is_some (row_at t j))
           → op (map (λ x. entry_at n (Mod x.0 x.1)) cells) ≡ map (λ x. entry_at n (Mod x.0 x.1)) cells
       other_cells j n [] h hf = nothing
-      other_cells j n (x ∷ cells) h hf =
-          skips (entry_at n (Mod x.0 x.1)) (map (λ x. entry_at n (Mod x.0 x.1)) cells) (not_it j n (Mod x.0 x.1) h hf)
-          ∙ ap (λ es. entry_at n (Mod x.0 x.1) ∷ es) (other_cells j n cells h hf)
+      other_cells j n (x ∷ cells) h hf = grind (arith, common_steps, other_cells j n cells h hf, not_it)
 
       other_effect : (j : Key) (g : Effect) (n : ℕ) → eq_by_cmp key_cmp k j ≡ false → T (is_keyed_effect key_cols j g)
           → T (fits (row_at t j) g) → op (entries_of n j g) ≡ entries_of n j g
@@ -296,10 +259,7 @@ module _ (key_cols : ℕ) (t : Table) where
     -- of a replaced row that is deleted the delete stays
     pub take-replaced : (row : Row) → T (is_keyed_effect key_cols k (effect.Rep row))
         → IsHere k take (Some (effect.Rep row)) (Some effect.Del)
-    take-replaced row he es h l =
-        take-takes (entry_at (rank k t) (Ins row)) (entry_at (rank k t) (Del k) ∷ canonical_entries t es) (its_own row he)
-        ∙ take-skips (entry_at (rank k t) (Del k)) (canonical_entries t es) (and_false (rank k t == rank k t) false refl)
-        ∙ ap (λ zs. entry_at (rank k t) (Del k) ∷ zs) (take-rest es h l)
+    take-replaced row he es h l = grind (arith, common_steps, take-takes, its_own, take-skips, and_false, take-rest)
 
     module _ (col : ℕ) (value : Value) where
       abbrev change : List Entry → List Entry
@@ -310,9 +270,7 @@ module _ (key_cols : ℕ) (t : Table) where
 
       change-changes : (row : Row) (es : List Entry) → T (eq_by_cmp key_cmp k (key_of key_cols row))
           → change (entry_at (rank k t) (Ins row) ∷ es) ≡ entry_at (rank k t) (Ins (set row col value)) ∷ change es
-      change-changes row es h =
-          ap (λ b. cond b (entry_at (rank k t) (Ins (set row col value))) (entry_at (rank k t) (Ins row)) ∷ change es)
-          (its_own row h)
+      change-changes row es h = search rules
 
       change-joins : (ys zs : List Entry) → change (ys ++ zs) ≡ change ys ++ change zs
       change-joins ys zs = map-append (λ e. cond (is_it e) (entry_at e.sid (change_with_cell col value e.change)) e) ys zs
@@ -326,17 +284,11 @@ module _ (key_cols : ℕ) (t : Table) where
 
       pub change-inserted : (row : Row) → T (is_keyed_effect key_cols k (effect.Ins row))
           → IsHere k change (Some (effect.Ins row)) (Some (effect.Ins (set row col value)))
-      change-inserted row he es h l =
-          change-changes row (canonical_entries t es) he
-          ∙ ap (λ zs. entry_at (rank k t) (Ins (set row col value)) ∷ zs) (change-rest es h l)
+      change-inserted row he es h l = grind (arith, common_steps, change-changes, change-rest)
 
       pub change-replaced : (row : Row) → T (is_keyed_effect key_cols k (effect.Rep row))
           → IsHere k change (Some (effect.Rep row)) (Some (effect.Rep (set row col value)))
-      change-replaced row he es h l =
-          change-changes row (entry_at (rank k t) (Del k) ∷ canonical_entries t es) he
-          ∙ ap (λ zs. entry_at (rank k t) (Ins (set row col value)) ∷ zs)
-          (change-skips (entry_at (rank k t) (Del k)) (canonical_entries t es) (and_false (rank k t == rank k t) false refl)
-          ∙ ap (λ zs. entry_at (rank k t) (Del k) ∷ zs) (change-rest es h l))
+      change-replaced row he es h l = grind (arith, common_steps, change-changes, change-skips, and_false, change-rest)
 
     -- ---- modifies dropped, and inserts, deletes and modifies put in
 
@@ -350,20 +302,14 @@ module _ (key_cols : ℕ) (t : Table) where
       apart_cells : (j : Key) (cells : Cells) → rank j t ≢ rank k t
           → drop (map (λ x. entry_at (rank j t) (Mod x.0 x.1)) cells) ≡ map (λ x. entry_at (rank j t) (Mod x.0 x.1)) cells
       apart_cells j [] ne = refl
-      apart_cells j (x ∷ cells) ne =
-          drop-skips (entry_at (rank j t) (Mod x.0 x.1)) (map (λ x. entry_at (rank j t) (Mod x.0 x.1)) cells)
-          (ap (λ b. b && true) (other_number (rank j t) (rank k t) ne))
-          ∙ ap (λ es. entry_at (rank j t) (Mod x.0 x.1) ∷ es) (apart_cells j cells ne)
+      apart_cells j (x ∷ cells) ne = grind (arith, common_steps, apart_cells j cells ne, drop-skips, other_number)
 
       apart_effect : (j : Key) (g : Effect) → (T (is_some (row_at t j)) → rank j t ≢ rank k t) → T (fits (row_at t j) g)
           → drop (entries_of (rank j t) j g) ≡ entries_of (rank j t) j g
       apart_effect j (effect.Ins row) ne hf = drop-skips (entry_at (rank j t) (Ins row)) [] (and_false (rank j t == rank k t) false refl)
       apart_effect j effect.Del ne hf = drop-skips (entry_at (rank j t) (Del j)) [] (and_false (rank j t == rank k t) false refl)
       apart_effect j (effect.Mod cells) ne hf = apart_cells j cells (ne hf)
-      apart_effect j (effect.Rep row) ne hf =
-          drop-skips (entry_at (rank j t) (Ins row)) (entry_at (rank j t) (Del j) ∷ []) (and_false (rank j t == rank k t) false refl)
-          ∙ ap (λ es. entry_at (rank j t) (Ins row) ∷ es)
-          (drop-skips (entry_at (rank j t) (Del j)) [] (and_false (rank j t == rank k t) false refl))
+      apart_effect j (effect.Rep row) ne hf = search rules
 
       drop-joins : (ys zs : List Entry) → drop (ys ++ zs) ≡ drop ys ++ drop zs
       drop-joins ys zs = filter-append (λ e. not ((e.sid == rank k t) && is_modify e.change)) ys zs
@@ -375,9 +321,7 @@ module _ (key_cols : ℕ) (t : Table) where
       gt_ne n m h e = omega arith
 
       drop-past : IsPast k drop
-      drop-past j g zs p he hf =
-          drop-joins (entries_of (rank j t) j g) zs
-          ∙ ap (λ ys. ys ++ drop zs) (apart_effect j g (λ hj. lt_ne (rank j t) (rank k t) (rank-lt j k t p hj)) hf)
+      drop-past j g zs p he hf = grind (arith, common_steps, drop-joins, apart_effect, lt_ne, rank-lt)
 
       drop-rest : (es : Effects) → T (below_all key_cmp k es) → T (are_lawful es) → drop (canonical_entries t es) ≡ canonical_entries t es
       drop-rest [] h l = refl
@@ -391,10 +335,7 @@ module _ (key_cols : ℕ) (t : Table) where
 
       drop-cells : (cells : Cells) (zs : List Entry) → drop (map (λ x. entry_at (rank k t) (Mod x.0 x.1)) cells ++ zs) ≡ drop zs
       drop-cells [] zs = refl
-      drop-cells (x ∷ cells) zs =
-          let rest = map (λ x. entry_at (rank k t) (Mod x.0 x.1)) cells ++ zs in
-          ap (λ b. cond (not (b && true)) (entry_at (rank k t) (Mod x.0 x.1) ∷ drop rest) (drop rest)) (same_number (rank k t))
-          ∙ drop-cells cells zs
+      drop-cells (x ∷ cells) zs = grind (arith, common_steps, drop-cells cells zs, same_number)
 
       pub delete-past : IsPast k (put_del key_cols (rank k t) k)
       delete-past j g zs p he hf =
@@ -420,21 +361,7 @@ module _ (key_cols : ℕ) (t : Table) where
             → put_mod key_cols (rank k t) col value (map (λ x. entry_at (rank k t) (Mod x.0 x.1)) cells ++ canonical_entries t es)
             ≡ map (λ x. entry_at (rank k t) (Mod x.0 x.1)) (put nat_cmp col value cells) ++ canonical_entries t es
         cells_put [] es h l = put-before k (Mod col value) there es h l
-        cells_put (x ∷ cells) es h l =
-            let e = entry_at (rank k t) (Mod col value) in
-            let y = entry_at (rank k t) (Mod x.0 x.1) in
-            let rest = map (λ x. entry_at (rank k t) (Mod x.0 x.1)) cells ++ canonical_entries t es in
-            ap (λ r. match_ordering (ordering_then r (nat_cmp col x.0)) (e ∷ y ∷ rest) (e ∷ rest) (y ∷ put_entry key_cols e rest))
-            (tied_itself nat_cmp_total (rank k t))
-            ∙ elim (nat_cmp col x.0) as
-            (λ r. nat_cmp col x.0 ≡ r → match_ordering r (e ∷ y ∷ rest) (e ∷ rest) (y ∷ put_entry key_cols e rest)
-            ≡ map (λ x. entry_at (rank k t) (Mod x.0 x.1))
-            (by_order r ((col, value) ∷ x ∷ cells) ((x.0, value) ∷ cells) (x ∷ put nat_cmp col value cells))
-            ++ canonical_entries t es) [
-              | Less ↦ λ p. refl
-              | Equal ↦ λ p. let same = nat_cmp-IsAntisymmetric col x.0 p in ap (λ c. entry_at (rank k t) (Mod c value) ∷ rest) same
-              | Greater ↦ λ p. ap (λ zs. y ∷ zs) (cells_put cells es h l)
-            ] refl
+        cells_put (x ∷ cells) es h l = grind (arith, common_steps, cells_put cells es h l, nat_cmp)
 
         pub modify-modified : (cells : Cells) → IsHere k (put_mod key_cols (rank k t) col value) (Some (effect.Mod cells))
             (Some (effect.Mod (put nat_cmp col value cells)))
@@ -448,9 +375,4 @@ module _ (key_cols : ℕ) (t : Table) where
       insert-row es h l = put-before k (Ins row) keyed es h l
 
       pub insert-deleted : IsHere k (put_ins key_cols (rank k t) row) (Some effect.Del) (Some (effect.Rep row))
-      insert-deleted es h l =
-          ap (λ r. match_ordering (ordering_then r Less)
-          (entry_at (rank k t) (Ins row) ∷ entry_at (rank k t) (Del k) ∷ canonical_entries t es)
-          (entry_at (rank k t) (Ins row) ∷ canonical_entries t es)
-          (entry_at (rank k t) (Del k) ∷ put_entry key_cols (entry_at (rank k t) (Ins row)) (canonical_entries t es)))
-          (tied_itself nat_cmp_total (rank k t))
+      insert-deleted es h l = search rules

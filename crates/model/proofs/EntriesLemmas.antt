@@ -1,5 +1,5 @@
 -- The entries of lawful effects stand in order.
-use Rattle.std.proofs.Common.{◌≡◌, ℕ, Bool, ◌&&◌, T, is_some, List, [], ◌∷◌, ◌++◌, map, Ordering, Less, is_lt, nat_cmp, sym, ap, subst}
+use Rattle.std.proofs.Common.{◌≡◌, ℕ, Bool, T, is_some, List, [], ◌∷◌, ◌++◌, map, Ordering, Less, is_lt, nat_cmp, sym, ap, subst, arith}
 use Rattle.std.specs.Ordering.{ordering_then}
 use Rattle.std.specs.List.{list_all}
 use Rattle.std.specs.Cmp.{tied_itself, nat_cmp_total}
@@ -12,14 +12,14 @@ use Rattle.model.specs.declared.entry.Change.{Change}
 use Rattle.model.specs.declared.entry.Change.TheVariants.{Ins, Del, Mod}
 use Rattle.model.specs.Maps.{is_sorted}
 use Rattle.model.specs.Table.{Table, row_at, rank}
-use Rattle.model.specs.Effects.{Cells, has_cells, Effects, is_keyed_effect, are_keyed_effects, fits, all_fit}
+use Rattle.model.specs.Effects.{Cells, Effects, is_keyed_effect, are_keyed_effects, fits, all_fit}
 use Rattle.model.specs.declared.effect.Effect.{Effect}
 use Rattle.model.specs.declared.effect.Effect.TheVariants as effect
 use Rattle.model.specs.Entries.{entry_at, entries_of, canonical_entries, entry_cmp, are_ordered}
 use Rattle.model.proofs.MapsLemmas.{both, first, second, less}
 use Rattle.model.proofs.RebasingLemmas.{is_placed}
 use Rattle.model.proofs.EditsLemmas.{entry-less}
-use Rattle.std.specs.Prelude.{nat_le}
+use Rattle.std.proofs.lemmas.Grind.{common_steps}
 
 module _ (key_cols : ℕ) where
   abbrev stands_before : Entry → Entry → Bool
@@ -103,14 +103,8 @@ module _ (key_cols : ℕ) where
   effect_ordered : (n : ℕ) (k : Key) (f : Effect) → T (is_keyed_effect key_cols k f) → T (are_ordered key_cols (entries_of n k f))
   effect_ordered n k (effect.Ins row) h = tt
   effect_ordered n k effect.Del h = tt
-  effect_ordered n k (effect.Mod cells) h =
-      let rest : T (is_sorted nat_cmp cells && list_all (λ c. nat_le key_cols c.0) cells) = second (has_cells cells) _ h in
-      cells_ordered n cells (first (is_sorted nat_cmp cells) _ rest)
-  effect_ordered n k (effect.Rep row) h =
-      let head : T (before_all (entry_at n (Ins row)) (entry_at n (Del k) ∷ [])) =
-      both (stands_before (entry_at n (Ins row)) (entry_at n (Del k))) _ (subst (λ r. T (is_lt r)) (sym (level n Less)) tt) tt
-      in
-      both _ _ head tt
+  effect_ordered n k (effect.Mod cells) h = grind (arith, common_steps, nat_cmp, second, cells_ordered, first)
+  effect_ordered n k (effect.Rep row) h = grind (arith, common_steps, both, level)
 
   all_ordered : (t : Table) (x : Effects) → T (is_sorted key_cmp x) → T (list_all (λ e. is_keyed_effect key_cols e.0 e.1) x)
       → T (all_fit t x) → T (are_ordered key_cols (canonical_entries t x))

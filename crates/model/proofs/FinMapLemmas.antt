@@ -1,5 +1,5 @@
 -- A table as std's finite map: the list of entries is that map's.
-use Rattle.std.proofs.Common.{◌≡◌, T, Some, map, cond, sym, ap, ◌∙◌}
+use Rattle.std.proofs.Common.{◌≡◌, T, Some, map, cond, sym, ap, ◌∙◌, arith}
 use Rattle.std.specs.Ordering.{eq_by_cmp}
 use Rattle.std.specs.FinMap.Entries.{is_sorted-put, find-put}
 use Rattle.values.specs.Orders.{key_cmp, key_cmp_total, key_cmp-IsAntisymmetric}
@@ -11,6 +11,7 @@ use Rattle.model.specs.Effects.{Effects, row_after, table_with}
 use Rattle.model.proofs.MapsLemmas.{changed_by}
 use Rattle.model.proofs.CompositionLemmas.{row_at-table_with, sorted-table_with}
 use Rattle.std.specs.FinMap as finite
+use Rattle.std.proofs.lemmas.Grind.{common_steps}
 
 -- the finite map of a table
 unfoldable pub map_of : Table → finite.FinMap key_cmp Row
@@ -38,7 +39,4 @@ insert-map_of t key row h =
 -- applying effects changes the map at each key by the effect on it
 pub get-table_with : (t : Table) (effects : Effects) (key : Key) → T (is_sorted key_cmp t) → T (is_sorted key_cmp effects)
     → finite.get (map_of (table_with t effects)) key ≡ changed_by row_after (find key_cmp key effects) (finite.get (map_of t) key)
-get-table_with t effects key ht h =
-    get-map_of (table_with t effects) key (sorted-table_with t effects ht)
-    ∙ row_at-table_with t effects key h
-    ∙ ap (changed_by row_after (find key_cmp key effects)) (sym (get-map_of t key ht))
+get-table_with t effects key ht h = grind (arith, common_steps, get-map_of, sorted-table_with, row_at-table_with, changed_by)

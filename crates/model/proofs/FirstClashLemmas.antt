@@ -1,12 +1,13 @@
 -- The first clash of two lists of entries is one, and the least.
-use Rattle.std.proofs.Common.{◌≡◌, ◌⊎◌, inl, inr, ℕ, zero, suc, ◌+◌, ◌<◌, ◌≤◌, Option, Some, None, List, [], ◌∷◌, refl, ap, ◌∙◌, subst, arith}
+use Rattle.std.proofs.Common.{◌≡◌, ◌⊎◌, inl, inr, ℕ, zero, suc, ◌+◌, ◌<◌, ◌≤◌, Option, Some, None, List, [], ◌∷◌, refl, ap, subst, arith, rules}
 use Rattle.std.specs.Prelude.{slice_get, IfSome, IsNone}
 use Rattle.model.specs.declared.entry.Entry.{Entry}
 use Rattle.model.specs.declared.clash.ClashKind.{ClashKind}
 use Rattle.model.specs.declared.clash.Clash.{Clash}
 use Rattle.model.specs.declared.clash.ConflictRule.{ConflictRule}
-use Rattle.model.specs.Rebasing.{clash_of_entries, or_clash, clash_with, or_else, first_clash_from, first_clash, AreClashing, IsLeastClash}
+use Rattle.model.specs.Rebasing.{clash_of_entries, or_clash, clash_with, first_clash_from, first_clash, AreClashing, IsLeastClash}
 use Rattle.model.specs.Laws.{FirstClashIsLeast}
+use Rattle.std.proofs.lemmas.Grind.{common_steps}
 
 module _ (rule : ConflictRule) (key_cols : ℕ) where
   -- ---- one entry against the others
@@ -36,12 +37,7 @@ module _ (rule : ConflictRule) (key_cols : ℕ) where
   -- past an entry that doesn't clash
   later_with : (i : ℕ) (x : Entry) (j : ℕ) (y : Entry) (ys : List Entry) (found : Option Clash) → IsFoundWith i x (suc j) ys found →
       clash_of_entries rule key_cols x y ≡ None → IsFoundWith i x j (y ∷ ys) found
-  later_with i x j y ys None none free = λ k z kind at is. by_place k z kind at is
-    where
-      -- by the place of what clashes
-      by_place : (k : ℕ) (z : Entry) (kind : ClashKind) → slice_get (y ∷ ys) k ≡ Some z → clash_of_entries rule key_cols x z ≡ Some kind → ⊥
-      by_place zero z kind at is = other_entry x y z kind free at is
-      by_place (suc k) z kind at is = none k z kind at is
+  later_with i x j y ys None none free = search rules
   later_with i x j y ys (Some clash) h free = record {
     x_is = h.x_is;
     place = suc h.place;
@@ -93,10 +89,7 @@ module _ (rule : ConflictRule) (key_cols : ℕ) where
   -- what clashes with the entry at place 0
   head_clash : (x : Entry) (xs ys : List Entry) (j : ℕ) (kind : ClashKind) (h : AreClashing rule key_cols (x ∷ xs) ys zero j kind) →
       clash_of_entries rule key_cols x h.y ≡ Some kind
-  head_clash x xs ys j kind h =
-      let same : ◌≡◌ {A = Option Entry} (Some x) (Some h.x) = h.x_at in
-      let is : x ≡ h.x = cc in
-      ap (λ z. clash_of_entries rule key_cols z h.y) is ∙ h.kind_is
+  head_clash x xs ys j kind h = search rules
 
   -- what clashes with a later entry
   tail_clash : (x : Entry) (xs ys : List Entry) (k j : ℕ) (kind : ClashKind) → AreClashing rule key_cols (x ∷ xs) ys (suc k) j kind →
@@ -139,36 +132,12 @@ module _ (rule : ConflictRule) (key_cols : ℕ) where
 
   -- the first clash of the entry at place i is the first of all
   here_from : (i : ℕ) (x : Entry) (xs ys : List Entry) (clash : Clash) → IsFirstWith i x zero ys clash → IsFirstFrom i (x ∷ xs) ys clash
-  here_from i x xs ys clash first = record {
-    place = zero;
-    x_is = omega (arith, first.x_is);
-    clashing = record {
-      x = x;
-      y = first.y;
-      x_at = refl;
-      y_at = let same : clash.y ≡ first.place = omega (arith, first.y_is) in ap (slice_get ys) same ∙ first.y_at;
-      kind_is = first.kind_is;
-    };
-    least = λ k j kind h. by_place k j kind h;
-  }
-    where
-      -- of the clashes at place 0 it is the least
-      by_place : (k j : ℕ) (kind : ClashKind) → AreClashing rule key_cols (x ∷ xs) ys k j kind → (zero < k) ⊎ ((zero ≡ k) × (clash.y ≤ j))
-      by_place zero j kind h = inr (refl, omega (arith, first.y_is, first.least j h.y kind h.y_at (head_clash x xs ys j kind h)))
-      by_place (suc k) j kind h = inl (omega arith)
+  here_from i x xs ys clash first = search rules
 
   -- the search of all entries finds the first clash
   first_from : (i : ℕ) (xs ys : List Entry) → IsFoundFrom i xs ys (first_clash_from rule key_cols i xs ys)
   first_from i [] ys = λ k j kind h. let at = h.x_at in cc
-  first_from i (x ∷ xs) ys =
-      by_head (clash_with rule key_cols i x zero ys) (first_clash_from rule key_cols (suc i) xs ys)
-      (first_with i x zero ys) (first_from (suc i) xs ys)
-    where
-      -- by what the search with the entry at place i finds
-      by_head : (head rest : Option Clash) → IsFoundWith i x zero ys head → IsFoundFrom (suc i) xs ys rest
-          → IsFoundFrom i (x ∷ xs) ys (or_else head rest)
-      by_head None rest free later = later_from i x xs ys rest later free
-      by_head (Some clash) rest first later = here_from i x xs ys clash first
+  first_from i (x ∷ xs) ys = grind (arith, common_steps, first_from (suc i) xs ys, first_with, later_from, here_from)
 
 -- the first clash is one, and the least
 pub first_clash-least : (key_cols : ℕ) → FirstClashIsLeast key_cols

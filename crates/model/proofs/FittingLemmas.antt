@@ -1,16 +1,12 @@
 -- Rows that fit the schema stay so under effects, composition and writes.
-use Rattle.std.proofs.Common.{◌≡◌, ℕ, zero, suc, Bool, true, false, cond, not, ◌&&◌, T, Option, Some, None, is_none, List, [], ◌∷◌, length, set, length-set, nat_lt, nat_le, nat_cmp, Less, Equal, Greater, refl, sym, subst, arith}
-use Rattle.std.proofs.lemmas.Bool.Decides.{nat_tests}
+use Rattle.std.proofs.Common.{◌≡◌, ℕ, zero, suc, Bool, false, not, ◌&&◌, T, Option, Some, None, is_none, List, [], ◌∷◌, length, set, length-set, nat_le, nat_cmp, refl, sym, subst, arith, rules}
 use Rattle.std.specs.Prelude.{◌==◌, slice_get}
-use Rattle.std.specs.FinMap.{nat_cmp-IsAntisymmetric}
-use Rattle.std.specs.FinMap.Entries.{by_order}
 use Rattle.std.specs.List.{list_all}
 use Rattle.values.specs.Orders.{key_cmp, key_cmp_total, key_cmp-IsAntisymmetric}
 use Rattle.values.specs.Shape.{Columns, has_type, is_too_long, value_fault, or_fault, values_fault, list_fault, cell_fault_at, fits_schema, cell_fits_schema}
 use Rattle.values.specs.declared.value.ColumnType.{ColumnType}
 use Rattle.values.specs.declared.value.Value.{Value}
 use Rattle.values.specs.declared.fault.ShapeFault.{ShapeFault}
-use Rattle.values.specs.declared.fault.ShapeFault.TheVariants.{WrongCount, WrongType, TextTooLong, KeyColumn}
 use Rattle.values.specs.declared.row.Row.{Row}
 use Rattle.values.specs.declared.row.Key.{Key}
 use Rattle.model.specs.declared.effect.Effect.{Effect}
@@ -25,6 +21,7 @@ use Rattle.model.specs.Writes.{write_fits_schema, key_of_write, effect_of_write}
 use Rattle.model.proofs.MapsLemmas.{both, first, second, changed_by, holds_at, each_at, each_from}
 use Rattle.model.proofs.CompositionLemmas.{row_at-table_with, effect_at-composed_effects, sorted-table_with, sorted-composed_effects}
 use Rattle.model.proofs.WritesLemmas.{sets_no_key}
+use Rattle.std.proofs.lemmas.Grind.{common_steps}
 
 -- ---- values
 
@@ -32,24 +29,13 @@ use Rattle.model.proofs.WritesLemmas.{sets_no_key}
 abbrev has_no_fault : ColumnType → Value → Bool
 has_no_fault type v = has_type type v && not (is_too_long v)
 
-value_fault-none : (type : ColumnType) (col : ℕ) (v : Value) → is_none (value_fault type col v) ≡ has_no_fault type v
-value_fault-none type col v =
-    elim (has_type type v) as
-    (λ b. is_none (cond b (cond (is_too_long v) (Some (TextTooLong col)) None) (Some (WrongType col))) ≡ b && not (is_too_long v)) [
-      | true ↦ elim (is_too_long v) as (λ b. is_none (cond b (Some (TextTooLong col)) None) ≡ not b) [ true ↦ refl | false ↦ refl ]
-      | false ↦ refl
-    ]
-
 or_fault-none : (x y : Option ShapeFault) → is_none (or_fault x y) ≡ is_none x && is_none y
 or_fault-none None y = refl
 or_fault-none (Some fault) y = refl
 
 list_fault-none : (types : List ColumnType) (values : List Value)
     → is_none (list_fault types values) ≡ (length values == length types) && is_none (values_fault 0 types values)
-list_fault-none types values =
-    elim (length values == length types) as
-    (λ b. is_none (cond b (values_fault 0 types values) (Some WrongCount)) ≡ b && is_none (values_fault 0 types values))
-    [ true ↦ refl | false ↦ refl ]
+list_fault-none types values = search rules
 
 -- whether a value has no fault in a column that may be there
 abbrev fits_column : Option ColumnType → Value → Bool
@@ -61,12 +47,7 @@ values_fault-set : (col i : ℕ) (v : Value) (types : List ColumnType) (values :
     → T (is_none (values_fault col types values)) → T (is_none (values_fault col types (set values i v)))
 values_fault-set col i v [] values h g = tt
 values_fault-set col i v (type ∷ types) [] h g = tt
-values_fault-set col zero v (type ∷ types) (w ∷ values) h g =
-    let split : T (is_none (value_fault type col w) && is_none (values_fault (suc col) types values)) =
-    subst T (or_fault-none (value_fault type col w) (values_fault (suc col) types values)) g in
-    subst T (sym (or_fault-none (value_fault type col v) (values_fault (suc col) types values)))
-    (both (is_none (value_fault type col v)) _ (subst T (sym (value_fault-none type col v)) h)
-    (second (is_none (value_fault type col w)) _ split))
+values_fault-set col zero v (type ∷ types) (w ∷ values) h g = search rules
 values_fault-set col (suc i) v (type ∷ types) (w ∷ values) h g =
     let split : T (is_none (value_fault type col w) && is_none (values_fault (suc col) types values)) =
     subst T (or_fault-none (value_fault type col w) (values_fault (suc col) types values)) g in
@@ -78,28 +59,12 @@ values_fault-set col (suc i) v (type ∷ types) (w ∷ values) h g =
 cell_fault-column : (type : Option ColumnType) (key_cols col : ℕ) (v : Value) → T (is_none (cell_fault_at type key_cols col v))
     → T (fits_column type v) × T (nat_le key_cols col)
 cell_fault-column None key_cols col v h = absurd h
-cell_fault-column (Some type) key_cols col v h =
-    elim (nat_lt col key_cols) as (λ b. nat_lt col key_cols ≡ b → T (is_none (cond b (Some KeyColumn) (value_fault type col v)))
-    → T (has_no_fault type v) × T (nat_le key_cols col)) [
-      | true ↦ λ e g. absurd g
-      | false ↦ λ e g. (subst T (value_fault-none type col v) g, at_least e)
-    ] refl h
-  where
-    at_least : nat_lt col key_cols ≡ false → T (nat_le key_cols col)
-    at_least e = grind (arith, nat_tests)
+cell_fault-column (Some type) key_cols col v h = search rules
 
 module _ (schema : Columns) where
   pub fits_schema-set : (row : Row) (col : ℕ) (v : Value) → T (cell_fits_schema schema col v) → T (fits_schema schema row)
       → T (fits_schema schema (set row col v))
-  fits_schema-set row col v h g =
-      let split : T ((length row == length schema.types) && is_none (values_fault 0 schema.types row)) =
-      subst T (list_fault-none schema.types row) g in
-      let same : length (set row col v) ≡ length row = length-set row col v in
-      subst T (sym (list_fault-none schema.types (set row col v)))
-      (both (length (set row col v) == length schema.types) _
-      (subst (λ n. T (n == length schema.types)) (sym same) (first (length row == length schema.types) _ split))
-      (values_fault-set 0 col v schema.types row ((cell_fault-column (slice_get schema.types col) schema.key_cols col v h).0)
-      (second (length row == length schema.types) _ split)))
+  fits_schema-set row col v h g = grind (arith, common_steps, list_fault-none, length-set, both, first, values_fault-set, cell_fault-column, second)
 
   -- ---- cells
 
@@ -116,16 +81,7 @@ module _ (schema : Columns) where
   cells_fit-put : (c : ℕ) (v : Value) (cells : Cells) → T (cell_fits_schema schema c v) → T (cells_fit cells)
       → T (cells_fit (put nat_cmp c v cells))
   cells_fit-put c v [] p h = both (cell_fits_schema schema c v) _ p tt
-  cells_fit-put c v (d ∷ cells) p h =
-      elim (nat_cmp c d.0) as
-      (λ r. nat_cmp c d.0 ≡ r → T (cells_fit (by_order r ((c, v) ∷ d ∷ cells) ((d.0, v) ∷ cells) (d ∷ put nat_cmp c v cells)))) [
-        | Less ↦ λ e. both (cell_fits_schema schema c v) _ p h
-        | Equal ↦ λ e. both (cell_fits_schema schema d.0 v) _
-            (subst (λ i. T (cell_fits_schema schema i v)) (nat_cmp-IsAntisymmetric c d.0 e) p)
-            (second (cell_fits_schema schema d.0 d.1) _ h)
-        | Greater ↦ λ e. both (cell_fits_schema schema d.0 d.1) _ (first (cell_fits_schema schema d.0 d.1) _ h)
-            (cells_fit-put c v cells p (second (cell_fits_schema schema d.0 d.1) _ h))
-      ] refl
+  cells_fit-put c v (d ∷ cells) p h = grind (arith, common_steps, cells_fit-put c v cells p (second (cell_fits_schema schema d.0 d.1) _ h), nat_cmp, both, second, first)
 
   cells_fit-over : (cells later : Cells) → T (cells_fit cells) → T (cells_fit later) → T (cells_fit (over_cells cells later))
   cells_fit-over cells [] h g = h
@@ -208,15 +164,10 @@ module _ (schema : Columns) where
       → T (all_effects_fit ((key_of_write schema.key_cols write, effect_of_write write) ∷ []))
   effect_of_write-fits (Insert row) h = both (fits_schema schema row) _ h tt
   effect_of_write-fits (Delete key) h = tt
-  effect_of_write-fits (Set key col v) h =
-      let cell : T (cell_fits_schema schema col v) = second _ (cell_fits_schema schema col v) h in
-      let cells : T (cells_fit ((col, v) ∷ [])) = both (cell_fits_schema schema col v) _ cell tt in
-      both (cells_fit ((col, v) ∷ [])) _ cells tt
+  effect_of_write-fits (Set key col v) h = search rules
 
   -- a write that fits the schema sets no key column
   pub sets_no_key-fits : (write : Write) → T (write_fits_schema schema write) → T (sets_no_key schema.key_cols write)
   sets_no_key-fits (Insert row) h = tt
   sets_no_key-fits (Delete key) h = tt
-  sets_no_key-fits (Set key col v) h =
-      let cell : T (cell_fits_schema schema col v) = second _ (cell_fits_schema schema col v) h in
-      (cell_fault-column (slice_get schema.types col) schema.key_cols col v cell).1
+  sets_no_key-fits (Set key col v) h = search rules

@@ -1,9 +1,8 @@
 -- The walk over two trees gives the entries of the composed effects.
-use Rattle.std.proofs.Common.{◌≡◌, ℕ, suc, ◌+◌, ◌<◌, ◌≤◌, Bool, true, false, cond, not, ◌&&◌, T, Option, Some, None, List, [], ◌∷◌, ◌++◌, Ordering, Less, Equal, Greater, is_lt, is_eq, is_gt, nat_cmp, refl, sym, ap, ◌∙◌, subst, arith}
-use Rattle.std.specs.Prelude.{nat_le}
+use Rattle.std.proofs.Common.{◌≡◌, ℕ, suc, ◌+◌, ◌<◌, ◌≤◌, Bool, true, false, cond, not, T, Option, Some, None, List, [], ◌∷◌, ◌++◌, Ordering, Less, Equal, Greater, is_lt, is_eq, is_gt, refl, sym, ap, ◌∙◌, subst, arith, rules}
 use Rattle.std.specs.Ordering.{eq_by_cmp}
 use Rattle.std.specs.List.{list_all}
-use Rattle.std.specs.Cmp.{IsTotalOrder, tied_itself, ranked}
+use Rattle.std.specs.Cmp.{IsTotalOrder, tied_itself}
 use Rattle.std.specs.FinMap.Entries.{by_order, below_all}
 use Rattle.values.specs.Orders.{key_cmp, key_cmp_total, key_cmp-IsAntisymmetric}
 use Rattle.values.specs.declared.row.Row.{Row}
@@ -14,16 +13,17 @@ use Rattle.model.specs.declared.entry.Change.TheVariants.{Ins, Del, Mod}
 use Rattle.model.specs.Maps.{find, put, is_sorted, without, store, alter, alter_all}
 use Rattle.model.specs.Table.{Table, row_at, rank}
 use Rattle.values.specs.Shape.{key_of}
-use Rattle.model.specs.Effects.{set_cells, Effects, has_cells, is_keyed_effect, fits, all_fit, row_after, table_with}
+use Rattle.model.specs.Effects.{set_cells, Effects, is_keyed_effect, fits, all_fit, row_after, table_with}
 use Rattle.model.specs.Composition.{over_cells, composed_effect, composed_effects}
 use Rattle.model.specs.declared.effect.Effect.{Effect}
 use Rattle.model.specs.declared.effect.Effect.TheVariants as effect
 use Rattle.model.specs.Entries.{entry_at, entries_of, canonical_entries}
-use Rattle.model.specs.Folding.{Upper, Lower, changes_meet, positions_meet, meet, fold_from, folded_entries}
+use Rattle.model.specs.Folding.{Upper, Lower, changes_meet, meet, fold_from, folded_entries}
 use Rattle.model.proofs.MapsLemmas.{both, first, second, less, turn_greater, below_head, below_less, find_below, alter_all_past, find_first, changed_by, equal}
 use Rattle.model.proofs.MergingLemmas.{all_after, canonical_entries_from, canonical_entries_from_zero, canonical_entries_from_past, canonical_entries_from_after, rank_below, put_below, all_fit_past, found_here, canon_here, apply_here, apply_deleted}
 use Rattle.model.proofs.CompositionLemmas.{cells_ascend, row_at-table_with}
 use Rattle.model.proofs.FoldingSteps.{met, lowered_here, upper_first, lower_first, upper_here, neither_here, mods, mods_upper, mods_lower, mods_deleted, mods_after_insert, mods_into, mods_merged}
+use Rattle.std.proofs.lemmas.Grind.{common_steps}
 
 -- ---- maps changed above a key
 
@@ -111,10 +111,7 @@ module _ (k : Key) (g f : Effect) (x fs : Effects) (bx : T (below_all key_cmp k 
 
 canon_first : (n : ℕ) (t : Table) (k : Key) (f : Effect) (fs : Effects) → T (below_all key_cmp k t)
     → canonical_entries_from n t ((k, f) ∷ fs) ≡ entries_of n k f ++ canonical_entries_from n t fs
-canon_first n t k f fs bt =
-    let none : rank k t ≡ 0 = rank_below k t bt in
-    let place : n + rank k t ≡ n = omega arith in
-    ap (λ m. entries_of m k f ++ canonical_entries_from n t fs) place
+canon_first n t k f fs bt = grind (arith, common_steps, rank_below, canonical_entries_from)
 
 apply_inserted : (t : Table) (k : Key) (row : Row) (x : Effects) → T (below_all key_cmp k t) → T (below_all key_cmp k x)
     → table_with t ((k, effect.Ins row) ∷ x) ≡ (k, row) ∷ table_with t x
@@ -132,21 +129,11 @@ module _ (key_cols : ℕ) where
 
   meets_upper : (n n' a d m : ℕ) (c u : Change) → n' + d ≡ n + a → n ≤ m → changes_meet key_cols c u ≡ Upper
       → meet key_cols a d (entry_at m c) (entry_at n' u) ≡ Upper
-  meets_upper n n' a d m c u level le is =
-      elim (nat_cmp (n' + d) (m + a)) as (λ r. nat_cmp (n' + d) (m + a) ≡ r → positions_meet key_cols r c u ≡ Upper) [
-        | Less ↦ λ q. refl
-        | Equal ↦ λ q. is
-        | Greater ↦ λ q. let lt : m + a < n' + d = ranked (n' + d) (m + a) Greater (sym q) in absurd (omega arith)
-      ] refl
+  meets_upper n n' a d m c u level le is = search rules
 
   meets_lower : (n n' a d m : ℕ) (c u : Change) → n' + d ≡ n + a → n' ≤ m → changes_meet key_cols c u ≡ Lower
       → meet key_cols a d (entry_at n c) (entry_at m u) ≡ Lower
-  meets_lower n n' a d m c u level le is =
-      elim (nat_cmp (m + d) (n + a)) as (λ r. nat_cmp (m + d) (n + a) ≡ r → positions_meet key_cols r c u ≡ Lower) [
-        | Less ↦ λ q. let lt : m + d < n + a = ranked (m + d) (n + a) Less (sym q) in absurd (omega arith)
-        | Equal ↦ λ q. is
-        | Greater ↦ λ q. refl
-      ] refl
+  meets_lower n n' a d m c u level le is = search rules
 
   abbrev is_keyed : Key → Row → Bool
   is_keyed k row = eq_by_cmp key_cmp k (key_of key_cols row)
@@ -227,9 +214,7 @@ module _ (key_cols : ℕ) where
     effect_first k (effect.Ins row) ls us h = upper_first key_cols n n' a d level ls h (Ins row) us
     effect_first k effect.Del ls us h = upper_first key_cols n n' a d level ls h (Del k) us
     effect_first k (effect.Mod cells) ls us h = mods_upper key_cols n n' a d level cells ls us h
-    effect_first k (effect.Rep row) ls us h =
-        upper_first key_cols n n' a d level ls h (Ins row) (entry_at n' (Del k) ∷ us)
-        ∙ ap (λ es. entry_at n (Ins row) ∷ es) (upper_first key_cols n n' a d level ls h (Del k) us)
+    effect_first k (effect.Rep row) ls us h = grind (arith, common_steps, upper_first)
 
   -- ---- the walk at the first key
 
@@ -385,10 +370,7 @@ module _ (key_cols : ℕ) where
       past_deleted : (n' a d : ℕ) → n' + d ≡ n + a
           → fold_from key_cols (entry_at n (Del e.0) ∷ lowers) a d (canonical_entries_from n' (table_with t x) fs)
           ≡ entry_at n (Del e.0) ∷ canonical_entries_from (suc n) t (composed_effects x fs)
-      past_deleted n' a d level =
-          let next : n' + (d + 1) ≡ suc n + (a + 0) = omega arith in
-          delete_first n n' a d level (table_with t x) fs e.0 lowers hf bf
-          ∙ ap (λ es. entry_at n (Del e.0) ∷ es) (rest n' (a + 0) (d + 1) next)
+      past_deleted n' a d level = grind (arith, common_steps, delete_first)
 
       past_replaced : (row : Row) (n' a d : ℕ) → n' + d ≡ n + a
           → fold_from key_cols (entry_at n (Ins row) ∷ entry_at n (Del e.0) ∷ lowers) a d
@@ -405,11 +387,7 @@ module _ (key_cols : ℕ) where
           → fold_from key_cols (entry_at n (Ins row) ∷ entry_at n (Del e.0) ∷ lowers) a d
           (entry_at n' (Del e.0) ∷ canonical_entries_from (suc n') (table_with t x) fs)
           ≡ entry_at n (Del e.0) ∷ canonical_entries_from (suc n) t (composed_effects x fs)
-      replaced_gone row n' a d level =
-          let next : suc n' + (d + 0) ≡ n + (a + 1) = omega arith in
-          neither_here key_cols n n' a d level (Ins row) (Del e.0) (entry_at n (Del e.0) ∷ lowers)
-          (canonical_entries_from (suc n') (table_with t x) fs) refl
-          ∙ past_deleted (suc n') (a + 1) (d + 0) next
+      replaced_gone row n' a d level = grind (arith, common_steps, neither_here, canonical_entries_from, past_deleted)
 
       past : (n' a d : ℕ) → n' + d ≡ n + a → fold_from key_cols lowers a d (canonical_entries_from (suc n') (table_with t x) fs)
           ≡ canonical_entries_from (suc n) t (composed_effects x fs)
@@ -505,35 +483,15 @@ module _ (key_cols : ℕ) where
   ascends_of : (k : Key) (g : Effect) → T (is_keyed_effect key_cols k g) → T (cells_ascend g)
   ascends_of k (effect.Ins row) h = tt
   ascends_of k effect.Del h = tt
-  ascends_of k (effect.Mod cells) h =
-      let tail : T (is_sorted nat_cmp cells && list_all (λ c. nat_le key_cols c.0) cells) = second (has_cells cells) _ h in
-      first (is_sorted nat_cmp cells) _ tail
+  ascends_of k (effect.Mod cells) h = search rules
   ascends_of k (effect.Rep row) h = tt
 
   drop_upper : (t : Table) (x : Effects) (y : Key × Effect) (fs : Effects) → AreLawful t x (y ∷ fs) → AreLawful t x fs
-  drop_upper t x y fs l = record {
-    table_sorted = l.table_sorted;
-    x_sorted = l.x_sorted;
-    x_effects = l.x_effects;
-    x_fits = l.x_fits;
-    f_sorted = second _ _ l.f_sorted;
-    f_effects = second _ _ l.f_effects;
-    f_fits = second _ _ l.f_fits;
-  }
+  drop_upper t x y fs l = search rules
 
   drop_inserted : (t : Table) (k : Key) (row : Row) (x f : Effects) → T (below_all key_cmp k t) → T (below_all key_cmp k f)
       → AreLawful t ((k, effect.Ins row) ∷ x) f → AreLawful t x f
-  drop_inserted t k row x f bt bf l = record {
-    table_sorted = l.table_sorted;
-    x_sorted = second _ _ l.x_sorted;
-    x_effects = second _ _ l.x_effects;
-    x_fits = second _ _ l.x_fits;
-    f_sorted = l.f_sorted;
-    f_effects = l.f_effects;
-    f_fits =
-        subst T (ap (λ u. all_fit u f) (apply_inserted t k row x bt (first _ _ l.x_sorted))
-        ∙ all_fit_past (k, row) (table_with t x) f bf) l.f_fits;
-  }
+  drop_inserted t k row x f bt bf l = grind (arith, common_steps, second, apply_inserted, first, all_fit_past)
 
   drop_row : (e : Key × Row) (t : Table) (x f : Effects) → T (below_all key_cmp e.0 x) → T (below_all key_cmp e.0 f)
       → AreLawful (e ∷ t) x f → AreLawful t x f
@@ -567,18 +525,7 @@ module _ (key_cols : ℕ) where
 
   drop_both : (e : Key × Row) (t : Table) (g : Effect) (x f : Effects) → T (below_all key_cmp e.0 f)
       → AreLawful (e ∷ t) ((e.0, g) ∷ x) f → AreLawful t x f
-  drop_both e t g x f bf l =
-      let bt = first _ _ l.table_sorted in
-      let bx = first _ _ l.x_sorted in
-      record {
-        table_sorted = second _ _ l.table_sorted;
-        x_sorted = second _ _ l.x_sorted;
-        x_effects = second _ _ l.x_effects;
-        x_fits = subst T (all_fit_past e t x bx) (second _ _ l.x_fits);
-        f_sorted = l.f_sorted;
-        f_effects = l.f_effects;
-        f_fits = subst T (fits_after e t g x f bt bx bf (lower_fits e t g x f l)) l.f_fits;
-      }
+  drop_both e t g x f bf l = grind (arith, common_steps, first, second, all_fit_past, fits_after, lower_fits)
 
   -- an upper effect below all keys is an insert
   upper_least : (n : ℕ) (t : Table) (x : Effects) (k : Key) (h : Effect) (fs : Effects) → T (below_all key_cmp k t)

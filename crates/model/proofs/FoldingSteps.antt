@@ -1,7 +1,5 @@
 -- Steps of the walk that folds one tree into another.
-use Rattle.std.proofs.Common.{◌≡◌, ℕ, ◌+◌, ◌-◌, ◌<◌, true, false, cond, T, List, [], ◌∷◌, ◌++◌, map, set, Less, Equal, Greater, nat_cmp, refl, sym, ap, ◌∙◌, subst, arith}
-use Rattle.std.specs.Prelude.{◌==◌, nat_lt}
-use Rattle.std.proofs.lemmas.Bool.Decides.{nat_tests}
+use Rattle.std.proofs.Common.{◌≡◌, ℕ, ◌+◌, ◌-◌, T, List, [], ◌∷◌, ◌++◌, map, set, Less, Equal, Greater, nat_cmp, refl, sym, ap, ◌∙◌, subst, arith, rules}
 use Rattle.std.specs.Cmp.{tied_itself, nat_cmp_total}
 use Rattle.std.specs.FinMap.{nat_cmp-IsAntisymmetric}
 use Rattle.std.specs.FinMap.Entries.{by_order, below_all}
@@ -16,11 +14,9 @@ use Rattle.model.specs.Effects.{Cells, set_cells}
 use Rattle.model.specs.Composition.{over_cells}
 use Rattle.model.specs.Entries.{entry_at}
 use Rattle.model.specs.Folding.{Meeting, Upper, Lower, Over, Neither, Into, columns_meet, changes_meet, positions_meet, meet, added_by, gone_by, lowered_entry, fold_one, fold_from}
-use Rattle.model.proofs.MapsLemmas.{first, second, less, turn_less, turn_greater, below_less, cmp_greater}
-use Rattle.model.proofs.MergingLemmas.{all_after, lt_of}
-
-cmp_less : (x y : ℕ) → x < y → nat_cmp x y ≡ Less
-cmp_less x y h = let t : nat_lt x y ≡ true = grind (arith, nat_tests) in ap (λ b. cond b Less (cond (x == y) Equal Greater)) t
+use Rattle.model.proofs.MapsLemmas.{first, second, less, turn_less, turn_greater, below_less}
+use Rattle.model.proofs.MergingLemmas.{all_after}
+use Rattle.std.proofs.lemmas.Grind.{common_steps}
 
 cmp_equal : (x y : ℕ) → x ≡ y → nat_cmp x y ≡ Equal
 cmp_equal x y e = ap (λ z. nat_cmp x z) (sym e) ∙ tied_itself nat_cmp_total x
@@ -58,30 +54,19 @@ module _ (key_cols : ℕ) where
     pub upper_first : (ls : List Entry) → T (all_after n ls) → (u : Change) (us : List Entry)
         → fold_from key_cols ls a d (entry_at n' u ∷ us) ≡ entry_at n u ∷ fold_from key_cols ls a d us
     upper_first [] h u us = ap (λ e. e ∷ map (lowered_entry a d) us) (lowered_here u)
-    upper_first (l ∷ ls) h u us =
-        let lt = lt_of n l.sid (first _ _ h) in
-        let far : n' + d < l.sid + a = omega arith in
-        met Upper l (fold_from key_cols ls) a d (entry_at n' u) us
-        (ap (λ r. positions_meet key_cols r l.change u) (cmp_less (n' + d) (l.sid + a) far))
-        ∙ ap (λ e. e ∷ fold_from key_cols (l ∷ ls) a d us) (lowered_here u)
+    upper_first (l ∷ ls) h u us = search rules
 
     -- each upper entry stands after position n': the lower one comes first
     pub lower_first : (c : Change) (ls us : List Entry) → T (all_after n' us)
         → fold_from key_cols (entry_at n c ∷ ls) a d us ≡ entry_at n c ∷ fold_from key_cols ls (a + added_by c) (d + gone_by c) us
     lower_first c ls [] h = refl
-    lower_first c ls (u ∷ us) h =
-        let lt = lt_of n' u.sid (first _ _ h) in
-        let far : n + a < u.sid + d = omega arith in
-        met Lower (entry_at n c) (fold_from key_cols ls) a d u us
-        (ap (λ r. positions_meet key_cols r c u.change) (cmp_greater (u.sid + d) (n + a) far))
+    lower_first c ls (u ∷ us) h = search rules
 
     -- the upper entry comes first here
     pub upper_here : (c u : Change) (ls us : List Entry) → changes_meet key_cols c u ≡ Upper
         → fold_from key_cols (entry_at n c ∷ ls) a d (entry_at n' u ∷ us)
         ≡ entry_at n u ∷ fold_from key_cols (entry_at n c ∷ ls) a d us
-    upper_here c u ls us m =
-        met Upper (entry_at n c) (fold_from key_cols ls) a d (entry_at n' u) us (here c u ∙ m)
-        ∙ ap (λ e. e ∷ fold_from key_cols (entry_at n c ∷ ls) a d us) (lowered_here u)
+    upper_here c u ls us m = search rules
 
     pub lower_here : (c u : Change) (ls us : List Entry) → changes_meet key_cols c u ≡ Lower
         → fold_from key_cols (entry_at n c ∷ ls) a d (entry_at n' u ∷ us)
@@ -136,20 +121,13 @@ module _ (key_cols : ℕ) (n n' a d : ℕ) (level : n' + d ≡ n + a) where
   pub mods_upper : (cells : Cells) (ls us : List Entry) → T (all_after n ls)
       → fold_from key_cols ls a d (mods n' cells ++ us) ≡ mods n cells ++ fold_from key_cols ls a d us
   mods_upper [] ls us h = refl
-  mods_upper (c ∷ cells) ls us h =
-      upper_first key_cols n n' a d level ls h (Mod c.0 c.1) (mods n' cells ++ us)
-      ∙ ap (λ es. entry_at n (Mod c.0 c.1) ∷ es) (mods_upper cells ls us h)
+  mods_upper (c ∷ cells) ls us h = grind (arith, common_steps, mods_upper cells ls us h, upper_first)
 
   -- and of the lower one alone
   pub mods_lower : (cells : Cells) (ls us : List Entry) → T (all_after n' us)
       → fold_from key_cols (mods n cells ++ ls) a d us ≡ mods n cells ++ fold_from key_cols ls a d us
   mods_lower [] ls us h = refl
-  mods_lower (c ∷ cells) ls us h =
-      let at_a = add_none a in
-      let at_d = add_none d in
-      lower_first key_cols n n' a d level (Mod c.0 c.1) (mods n cells ++ ls) us h
-      ∙ (λ i. entry_at n (Mod c.0 c.1) ∷ fold_from key_cols (mods n cells ++ ls) (at_a i) (at_d i) us)
-      ∙ ap (λ es. entry_at n (Mod c.0 c.1) ∷ es) (mods_lower cells ls us h)
+  mods_lower (c ∷ cells) ls us h = grind (arith, common_steps, mods_lower cells ls us h, add_none, lower_first)
 
   -- a delete takes the place of modifies
   pub mods_deleted : (cells : Cells) (key : Key) (ls us : List Entry)
@@ -171,9 +149,7 @@ module _ (key_cols : ℕ) (n n' a d : ℕ) (level : n' + d ≡ n + a) where
       → fold_from key_cols (entry_at n (Ins row) ∷ ls) a d (mods n' cells ++ us)
       ≡ fold_from key_cols (entry_at n (Ins (set_cells cells row)) ∷ ls) a d us
   mods_into [] row ls us = refl
-  mods_into (c ∷ cells) row ls us =
-      into_here key_cols n n' a d level (Ins row) (Mod c.0 c.1) (Ins (set row c.0 c.1)) ls (mods n' cells ++ us) refl
-      ∙ mods_into cells (set row c.0 c.1) ls us
+  mods_into (c ∷ cells) row ls us = grind (arith, common_steps, mods_into cells (set row c.0 c.1) ls us, into_here)
 
   abbrev AreMerged : List Entry → List Entry → Cells → Cells → Type 0
   AreMerged ls us cells later =

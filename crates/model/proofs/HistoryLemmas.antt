@@ -1,17 +1,18 @@
 -- Legal histories: their commits fit the tables that they found, and no table has more rows than the limit.
-use Rattle.std.proofs.Common.{◌≡◌, ℕ, zero, suc, ◌+◌, ◌-◌, ◌<◌, ◌≤◌, Bool, true, false, cond, ◌&&◌, ◌||◌, List, [], ◌∷◌, ◌++◌, length, take, drop, refl, sym, ap, subst, arith}
+use Rattle.std.proofs.Common.{◌≡◌, ℕ, zero, suc, ◌+◌, ◌-◌, ◌<◌, ◌≤◌, Bool, true, false, ◌&&◌, List, [], ◌∷◌, ◌++◌, length, take, drop, refl, arith, rules}
 use Rattle.std.specs.Prelude.{nat_lt, IsTrue}
 use Rattle.std.specs.List.{list_all, list_any}
 use Rattle.std.proofs.lemmas.Bool.Decides.{nat_tests}
 use Rattle.values.specs.Shape.{Columns}
-use Rattle.model.specs.declared.write.CommitReply.TheVariants.{Committed, Conflict, TooOld, Full}
+use Rattle.model.specs.declared.write.CommitReply.TheVariants.{TooOld}
 use Rattle.model.specs.Table.{Table, IsTable}
 use Rattle.model.specs.Effects.{Effects, AreOver, table_with}
 use Rattle.model.specs.Writes.{write_fits_schema, effects_after}
 use Rattle.model.specs.Clashes.{conflicts}
-use Rattle.model.specs.History.{table_with_all, table_after, Start, Record, due_reply, commits_with, writes_of, effects_of_record, IsSnapshot, IsLegalRecord, IsLegalFrom, commits_after, commits_from}
+use Rattle.model.specs.History.{table_with_all, table_after, Start, Record, due_reply, commits_with, effects_of_record, IsSnapshot, IsLegalRecord, IsLegalFrom, commits_after, commits_from}
 use Rattle.model.specs.Laws.{LeavesTable, WriteKeeps, WritesKeep, RebasesEntries, AreCommits, LegalCommitsFit, LegalTablesKeepLimit}
 use Rattle.model.proofs.TurnsLemmas.{over-table_with_all}
+use Rattle.std.proofs.lemmas.Grind.{common_steps}
 
 -- the first of two tests that both hold
 pub left_true : (a b : Bool) → IsTrue (a && b) → IsTrue a
@@ -45,13 +46,7 @@ module _ (schema : Columns) (start : Start) (commits : List Effects) (k : ℕ) w
 
   -- what began below the base is too old
   pub due_reply-cut : (x : Effects) → k < start.base → due_reply start commits k x ≡ TooOld (start.base + length commits)
-  due_reply-cut x below =
-      let n = start.base + length commits in
-      let late = nat_lt start.recent (n - k) in
-      let clash = list_any (conflicts start.rule x) (drop (k - start.base) commits) in
-      let full = nat_lt start.limit (length (table_with (table_with_all start.table commits) x)) in
-      let is : nat_lt k start.base ≡ true = grind (arith, nat_tests) in
-      ap (λ b. cond (b || late) (TooOld n) (cond clash (Conflict n) (cond full (Full n) (Committed (suc n))))) is
+  due_reply-cut x below = search rules
 
 -- ---- commits, each over the table that it found
 
@@ -104,45 +99,19 @@ module _ (start : Start) (P : List Effects → Type 0) where
       (list_any (conflicts start.rule x) (drop (k - start.base) commits) ≡ false →
       nat_lt start.limit (length (table_with (table_with_all start.table commits) x)) ≡ false → P (commits ++ x ∷ [])) →
       P (commits_with commits x (due_reply start commits k x))
-  commits_with-due_reply commits k x kept more =
-      let n = start.base + length commits in
-      by_tests n (nat_lt k start.base || nat_lt start.recent (n - k)) (list_any (conflicts start.rule x) (drop (k - start.base) commits))
-      (nat_lt start.limit (length (table_with (table_with_all start.table commits) x))) more
-    where
-      -- by the three tests of the reply
-      by_tests : (n : ℕ) (old clash full : Bool) → (clash ≡ false → full ≡ false → P (commits ++ x ∷ [])) →
-          P (commits_with commits x (cond old (TooOld n) (cond clash (Conflict n) (cond full (Full n) (Committed (suc n))))))
-      by_tests n true clash full more = kept
-      by_tests n false true full more = kept
-      by_tests n false false true more = kept
-      by_tests n false false false more = more refl refl
+  commits_with-due_reply commits k x kept more = search rules
 
 module _ (schema : Columns) (leaves : LeavesTable schema) (keeps : WriteKeeps schema) (rebases : RebasesEntries schema) where
   module _ (start : Start) (table : IsTable schema start.table) where
     -- the effects of a legal record are over the table of its number
     over-effects_of_record : (commits : List Effects) (r : Record) → AreCommits schema start.table commits →
         IsLegalRecord schema start commits r → AreOver schema (table_after start commits r.begin) (effects_of_record schema start commits r)
-    over-effects_of_record commits r commits_are legal =
-        let k = r.begin - start.base in
-        let t = table_after start commits r.begin in
-        let fit = AreCommits-take schema start.table commits k commits_are in
-        let before = IsTable-table_with_all schema leaves start.table (take k commits) table fit in
-        over-effects_after_all schema keeps start.limit t [] (writes_of r) (over_none schema t before) legal.fitting
+    over-effects_of_record commits r commits_are legal = grind (arith, common_steps, AreCommits-take, IsTable-table_with_all, over-effects_after_all, over_none)
 
     -- a legal record leaves commits that are each over the table that they found
     AreCommits-commits_after : (commits : List Effects) (r : Record) → AreCommits schema start.table commits →
         IsLegalRecord schema start commits r → AreCommits schema start.table (commits_after schema start commits r)
-    AreCommits-commits_after commits r commits_are legal =
-        let k = r.begin - start.base in
-        let x = effects_of_record schema start commits r in
-        let over = over-effects_of_record commits r commits_are legal in
-        subst (λ reply. AreCommits schema start.table (commits_with commits x reply)) (sym legal.replied)
-        (commits_with-due_reply start (AreCommits schema start.table) commits r.begin x commits_are
-        (λ free room.
-        let later = AreCommits-drop schema start.table commits k commits_are in
-        let newest = over-table_with_all schema rebases start.rule (table_after start commits r.begin) x (drop k commits) over later free in
-        let all = subst (λ t. AreOver schema t x) (table_with_all-drop start.table commits k) newest in
-        AreCommits-append schema start.table commits x commits_are all))
+    AreCommits-commits_after commits r commits_are legal = grind (arith, common_steps, over-effects_of_record, commits_with-due_reply, AreCommits-drop, over-table_with_all, table_with_all-drop, AreCommits-append)
 
     -- and so does a legal history
     AreCommits-commits_from : (commits : List Effects) (history : List Record) → AreCommits schema start.table commits →
@@ -183,12 +152,7 @@ module _ (schema : Columns) (start : Start) where
   -- a legal record keeps the limit
   TablesKeepLimit-commits_after : (commits : List Effects) (r : Record) → TablesKeepLimit start.limit start.table commits →
       IsLegalRecord schema start commits r → TablesKeepLimit start.limit start.table (commits_after schema start commits r)
-  TablesKeepLimit-commits_after commits r kept legal =
-      let x = effects_of_record schema start commits r in
-      let count = length (table_with (table_with_all start.table commits) x) in
-      subst (λ reply. TablesKeepLimit start.limit start.table (commits_with commits x reply)) (sym legal.replied)
-      (commits_with-due_reply start (TablesKeepLimit start.limit start.table) commits r.begin x kept
-      (λ free room. TablesKeepLimit-append start.limit start.table commits x kept (within start.limit count room)))
+  TablesKeepLimit-commits_after commits r kept legal = grind (arith, common_steps, commits_with-due_reply, TablesKeepLimit-append, within)
 
   -- and so does a legal history
   TablesKeepLimit-commits_from : (commits : List Effects) (history : List Record) → TablesKeepLimit start.limit start.table commits →

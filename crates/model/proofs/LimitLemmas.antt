@@ -1,10 +1,7 @@
 -- No write takes the image past the row limit.
-use Rattle.std.proofs.Common.{◌≡◌, ℕ, ◌+◌, ◌≤◌, Bool, true, false, cond, not, T, Option, Some, None, is_some, option_map, [], ◌∷◌, length, refl, sym, ap, ◌∙◌, subst, arith}
-use Rattle.std.specs.Prelude.{nat_le}
+use Rattle.std.proofs.Common.{◌≡◌, ℕ, ◌+◌, ◌≤◌, Bool, true, false, cond, T, Option, Some, None, is_some, option_map, [], ◌∷◌, length, refl, sym, ap, ◌∙◌, subst, arith, rules}
 use Rattle.std.specs.Bool.{passes}
-use Rattle.std.specs.Ordering.{eq_by_cmp}
 use Rattle.std.specs.FinMap.Entries.{length-put}
-use Rattle.std.proofs.lemmas.Bool.Decides.{nat_tests}
 use Rattle.std.proofs.lemmas.List.Sums.{length-filter, count_by-le-length}
 use Rattle.values.specs.Orders.{key_cmp, key_cmp_total}
 use Rattle.values.specs.Shape.{Columns, key_of}
@@ -12,7 +9,6 @@ use Rattle.values.specs.declared.row.Row.{Row}
 use Rattle.values.specs.declared.row.Key.{Key}
 use Rattle.model.specs.declared.write.Write.{Write}
 use Rattle.model.specs.declared.write.Write.TheVariants.{Insert, Delete, Set}
-use Rattle.model.specs.declared.write.WriteReply.TheVariants.{Done, Full}
 use Rattle.model.specs.Maps.{is_sorted, without, store, alter}
 use Rattle.model.specs.Table.{Table, row_at, is_keyed_table}
 use Rattle.model.specs.Effects.{set_cells, row_after, table_with, are_keyed_effects, all_fit, fits}
@@ -25,24 +21,14 @@ use Rattle.model.proofs.WritesLemmas.{follows, done_fits}
 
 -- a table without a key has no more rows
 length-without-le : (key : Key) (t : Table) → length (without key_cmp key t) ≤ length t
-length-without-le key t =
-    omega
-    (arith, length-filter (λ e. not (eq_by_cmp key_cmp key e.0)) t, count_by-le-length (λ e. not (eq_by_cmp key_cmp key e.0)) t)
+length-without-le key t = omega (arith, length-filter, count_by-le-length)
 
 module _ (limit : ℕ) where
-  -- a count that isn't at the limit leaves room for one row
-  room : (n : ℕ) → nat_le limit n ≡ false → n + 1 ≤ limit
-  room n h = grind (arith, nat_tests)
-
   -- an insert that is done adds a row where there is room for one
   insert_within : (found : Option Row) (n : ℕ) (row : Row) → T (is_done (reply_where limit (is_some found) n (Insert row)))
       → cond (is_some found) n (n + 1) ≤ limit
   insert_within (Some old) n row done = absurd done
-  insert_within None n row done =
-      elim (nat_le limit n) as (λ b. nat_le limit n ≡ b → T (is_done (cond b Full Done)) → n + 1 ≤ limit) [
-        | true ↦ λ is never. absurd never
-        | false ↦ λ is g. room n is
-      ] refl done
+  insert_within None n row done = search rules
 
   -- one write that is done, in a table within the limit
   alter-within : (key_cols : ℕ) (image : Table) (write : Write) → T (is_sorted key_cmp image)

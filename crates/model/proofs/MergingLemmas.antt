@@ -1,5 +1,5 @@
 -- The image of the entries of effects is the table after them.
-use Rattle.std.proofs.Common.{◌≡◌, ℕ, suc, ◌+◌, ◌<◌, Bool, true, false, cond, not, ◌&&◌, T, Some, None, List, [], ◌∷◌, ◌++◌, map, length, filter, flat_map, Less, Equal, Greater, is_lt, is_eq, refl, sym, ap, ◌∙◌, subst, arith}
+use Rattle.std.proofs.Common.{◌≡◌, ℕ, suc, ◌+◌, ◌<◌, Bool, false, cond, not, ◌&&◌, T, Some, None, List, [], ◌∷◌, ◌++◌, map, length, filter, flat_map, Less, Equal, Greater, is_lt, is_eq, refl, sym, ap, ◌∙◌, subst, arith, rules}
 use Rattle.std.proofs.lemmas.Bool.Decides.{nat_tests}
 use Rattle.std.specs.Prelude.{◌==◌, nat_lt, slice_set}
 use Rattle.std.specs.Cmp.{tied_itself}
@@ -19,20 +19,16 @@ use Rattle.model.specs.declared.effect.Effect.TheVariants as effect
 use Rattle.model.specs.Entries.{entry_at, entries_of, canonical_entries}
 use Rattle.model.specs.Merging.{changes_at, inserted_rows, left_of, merged_rows_from, merged_rows}
 use Rattle.model.proofs.MapsLemmas.{both, first, second, less, turn_less, turn_greater, below_head, below_less, find_below, without_below, find_past, alter_all_past}
+use Rattle.std.proofs.lemmas.Grind.{common_steps}
 
 -- ---- changes at a place
-
-same_number : (n : ℕ) → (n == n) ≡ true
-same_number n = grind (arith, nat_tests)
 
 above_other : (n m : ℕ) → n < m → (m == n) ≡ false
 above_other n m lt = grind (arith, nat_tests)
 
 -- an entry at a place is the first change there, before those of the rest
 pub changes_at_here : (n : ℕ) (c : Change) (es : List Entry) → changes_at n (entry_at n c ∷ es) ≡ c ∷ changes_at n es
-changes_at_here n c es =
-    ap (λ b. map (λ (e : Entry). e.change) (cond b (entry_at n c ∷ filter (λ e. e.sid == n) es) (filter (λ e. e.sid == n) es)))
-    (same_number n)
+changes_at_here n c es = search rules
 
 -- an entry at another place adds no change here
 pub changes_at_other : (n : ℕ) (e : Entry) (es : List Entry) → (e.sid == n) ≡ false → changes_at n (e ∷ es) ≡ changes_at n es
@@ -74,10 +70,7 @@ merged_rows_from_past n m c (row ∷ base) es lt =
 pub merged_rows_from_insert : (n : ℕ) (new : Row) (base : List Row) (es : List Entry)
     → merged_rows_from n base (entry_at n (Ins new) ∷ es) ≡ new ∷ merged_rows_from n base es
 merged_rows_from_insert n new [] es = ap inserted_rows (changes_at_here n (Ins new) es)
-merged_rows_from_insert n new (row ∷ base) es =
-    let here = changes_at_here n (Ins new) es in
-    let lt : n < suc n = omega arith in
-    λ i. inserted_rows (here i) ++ (left_of row (here i) ++ merged_rows_from_past n (suc n) (Ins new) base es lt i)
+merged_rows_from_insert n new (row ∷ base) es = grind (arith, common_steps, changes_at_here, merged_rows_from_past)
 
 -- without entries at the first place its row stands
 pub merged_rows_from_none : (n : ℕ) (row : Row) (base : List Row) (es : List Entry) → T (all_after n es)
@@ -88,22 +81,14 @@ merged_rows_from_none n row base es h =
 -- a delete at the first place takes its row away
 pub merged_rows_from_delete : (n : ℕ) (key : Key) (row : Row) (base : List Row) (es : List Entry) → T (all_after n es)
     → merged_rows_from n (row ∷ base) (entry_at n (Del key) ∷ es) ≡ merged_rows_from (suc n) base es
-merged_rows_from_delete n key row base es h =
-    let here = changes_at_here n (Del key) es ∙ ap (λ cs. Del key ∷ cs) (changes_at_after n es h) in
-    let lt : n < suc n = omega arith in
-    λ i. inserted_rows (here i) ++ (left_of row (here i) ++ merged_rows_from_past n (suc n) (Del key) base es lt i)
+merged_rows_from_delete n key row base es h = grind (arith, common_steps, changes_at_here, changes_at_after, merged_rows_from_past)
 
 -- modifies at the first place change its row's cells
 pub merged_rows_from_modify : (n : ℕ) (cells : Cells) (row : Row) (base : List Row) (es : List Entry) → T (all_after n es)
     → merged_rows_from n (row ∷ base) (map (λ c. entry_at n (Mod c.0 c.1)) cells ++ es)
     ≡ set_cells cells row ∷ merged_rows_from (suc n) base es
 merged_rows_from_modify n [] row base es h = merged_rows_from_none n row base es h
-merged_rows_from_modify n (c ∷ cells) row base es h =
-    let rest = map (λ c. entry_at n (Mod c.0 c.1)) cells ++ es in
-    let here = changes_at_here n (Mod c.0 c.1) rest in
-    let lt : n < suc n = omega arith in
-    (λ i. inserted_rows (here i) ++ (left_of row (here i) ++ merged_rows_from_past n (suc n) (Mod c.0 c.1) base rest lt i))
-    ∙ merged_rows_from_modify n cells (slice_set row c.0 c.1) base es h
+merged_rows_from_modify n (c ∷ cells) row base es h = grind (arith, common_steps, merged_rows_from_modify n cells (slice_set row c.0 c.1) base es h, changes_at_here, merged_rows_from_past)
 
 -- no entries change nothing
 pub merged_rows_from_nothing : (n : ℕ) (base : List Row) → merged_rows_from n base [] ≡ base
@@ -117,9 +102,7 @@ canonical_entries_from n t effects = flat_map (λ e. entries_of (n + rank e.0 t)
 
 pub canonical_entries_from_zero : (t : Table) (effects : Effects) → canonical_entries_from 0 t effects ≡ canonical_entries t effects
 canonical_entries_from_zero t [] = refl
-canonical_entries_from_zero t (e ∷ effects) =
-    let z : 0 + rank e.0 t ≡ rank e.0 t = omega arith in
-    λ i. entries_of (z i) e.0 e.1 ++ canonical_entries_from_zero t effects i
+canonical_entries_from_zero t (e ∷ effects) = search rules
 
 rank_past : (k : Key) (e : Key × Row) (t : Table) → key_cmp e.0 k ≡ Less → rank k (e ∷ t) ≡ suc (rank k t)
 rank_past k e t h = ap (λ r. length (cond (is_lt r) (e ∷ filter (λ e. is_lt (key_cmp e.0 k)) t) (filter (λ e. is_lt (key_cmp e.0 k)) t))) h
@@ -224,18 +207,13 @@ module _ (e : Key × Row) (t : Table) where
         ∙ without_below key_cmp_total e.0 t bt
 
     rank_here : rank e.0 (e ∷ t) ≡ 0
-    rank_here =
-        ap (λ r. length (cond (is_lt r) (e ∷ filter (λ x. is_lt (key_cmp x.0 e.0)) t) (filter (λ x. is_lt (key_cmp x.0 e.0)) t))) tied
-        ∙ rank_below e.0 t bt
+    rank_here = grind (arith, common_steps, tied, rank_below)
 
     module _ (n : ℕ) (effects : Effects) (be : T (below_all key_cmp e.0 effects)) where
       -- the entries of an effect here, and then those of the others
       pub canon_here : (f : Effect)
           → canonical_entries_from n (e ∷ t) ((e.0, f) ∷ effects) ≡ entries_of n e.0 f ++ canonical_entries_from (suc n) t effects
-      canon_here f =
-          let z : n + 0 ≡ n = omega arith in
-          let place = ap (λ m. n + m) rank_here ∙ z in
-          λ i. entries_of (place i) e.0 f ++ canonical_entries_from_past n e t effects be i
+      canon_here f = grind (arith, common_steps, rank_here, canonical_entries_from_past)
 
       far : T (all_after n (canonical_entries_from (suc n) t effects))
       far = let lt : n < suc n = omega arith in canonical_entries_from_after n (suc n) t effects lt

@@ -1,5 +1,5 @@
 -- A base row that isn't deleted stands at its position in the image.
-use Rattle.std.proofs.Common.{◌≡◌, ℕ, zero, suc, ◌+◌, ◌-◌, ◌<◌, ◌≤◌, Bool, true, false, cond, Option, Some, None, List, [], ◌∷◌, ◌++◌, map, length, filter, set, refl, sym, ap, ◌∙◌, subst, arith}
+use Rattle.std.proofs.Common.{◌≡◌, ℕ, zero, suc, ◌+◌, ◌-◌, ◌<◌, ◌≤◌, Bool, cond, Option, Some, None, List, [], ◌∷◌, ◌++◌, map, length, filter, set, refl, sym, ap, ◌∙◌, subst, arith}
 use Rattle.std.specs.Prelude.{◌==◌, nat_lt, nat_le, slice_get}
 use Rattle.std.proofs.lemmas.Bool.Decides.{nat_tests}
 use Rattle.values.specs.declared.row.Row.{Row}
@@ -8,6 +8,7 @@ use Rattle.model.specs.declared.entry.Change.{Change}
 use Rattle.model.specs.declared.entry.Change.TheVariants.{Ins, Del, Mod}
 use Rattle.model.specs.Merging.{changes_at, inserted_rows, left_of, merged_rows_from, merged_rows}
 use Rattle.model.specs.Places.{deleted_keys, rid_of_base}
+use Rattle.std.proofs.lemmas.Grind.{common_steps}
 
 skip : {X : Type 0} (xs ys : List X) (i : ℕ) → slice_get (xs ++ ys) (length xs + i) ≡ slice_get ys i
 skip [] ys i = let z : 0 + i ≡ i = omega arith in ap (slice_get ys) z
@@ -44,21 +45,11 @@ none_more n = omega arith
 
 count_inserts : (p : Entry → Bool) (es : List Entry) → length (inserted_rows (map (λ e. e.change) (filter p es))) ≡ counted ins_worth p es
 count_inserts p [] = refl
-count_inserts p (e ∷ es) =
-    elim (p e) as (λ b. length (inserted_rows (map (λ e. e.change) (cond b (e ∷ filter p es) (filter p es))))
-    ≡ cond b (ins_worth e.change) 0 + counted ins_worth p es) [
-      | true ↦ one_more e.change (map (λ e. e.change) (filter p es)) ∙ ap (λ n. ins_worth e.change + n) (count_inserts p es)
-      | false ↦ count_inserts p es ∙ none_more (counted ins_worth p es)
-    ]
+count_inserts p (e ∷ es) = grind (arith, common_steps, count_inserts p es, one_more, none_more)
 
 count_deletes : (p : Entry → Bool) (es : List Entry) → length (deleted_keys (map (λ e. e.change) (filter p es))) ≡ counted del_worth p es
 count_deletes p [] = refl
-count_deletes p (e ∷ es) =
-    elim (p e) as (λ b. length (deleted_keys (map (λ e. e.change) (cond b (e ∷ filter p es) (filter p es))))
-    ≡ cond b (del_worth e.change) 0 + counted del_worth p es) [
-      | true ↦ one_gone e.change (map (λ e. e.change) (filter p es)) ∙ ap (λ n. del_worth e.change + n) (count_deletes p es)
-      | false ↦ count_deletes p es ∙ none_more (counted del_worth p es)
-    ]
+count_deletes p (e ∷ es) = grind (arith, common_steps, count_deletes p es, one_gone, none_more)
 
 below_next : (x m w : ℕ) → cond (nat_lt x (suc m)) w 0 ≡ cond (nat_lt x m) w 0 + cond (x == m) w 0
 below_next x m w = grind (arith, nat_tests)
@@ -143,15 +134,7 @@ module _ (es : List Entry) (single : (m : ℕ) → length (deleted_keys (changes
       → r + (n + ins_below n) + del_below s ≡ (s + ins_below s + ins_here s) + del_below n
       → slice_get (merged_rows_from n base es) r ≡ row_left (slice_get base k) (changes_at s es)
   found [] n k s r is lt kept at_r = absurd (omega arith)
-  found (row ∷ base) n zero s r is lt kept at_r =
-      let e : s ≡ n = omega arith in
-      let kept' = subst (λ m. length (deleted_keys (changes_at m es)) ≡ 0) e kept in
-      let at_r' = subst (λ m. r + (n + ins_below n) + del_below m ≡ (m + ins_below m + ins_here m) + del_below n) e at_r in
-      let index : r ≡ length (inserted_rows (changes_at n es)) + 0 = omega (arith, at_r', here_ins n) in
-      ap (slice_get (merged_rows_from n (row ∷ base) es)) index
-      ∙ skip (inserted_rows (changes_at n es)) (left_of row (changes_at n es) ++ merged_rows_from (suc n) base es) 0
-      ∙ left_first row (changes_at n es) (merged_rows_from (suc n) base es) kept'
-      ∙ ap (λ m. slice_get (left_of row (changes_at m es)) 0) (sym e)
+  found (row ∷ base) n zero s r is lt kept at_r = grind (arith, common_steps, here_ins, skip, left_first)
   found (row ∷ base) n (suc k) s r is lt kept at_r =
       let e : s ≡ suc n + k = omega arith in
       let shorter : k < length base = omega arith in
@@ -214,14 +197,7 @@ module _ (es : List Entry) (single : (m : ℕ) → length (deleted_keys (changes
       let index : r ≡ j = omega (arith, at_r') in
       λ i. slice_get (inserted_rows (changes_at (sym e i) es)) (index i)
   found_insert [] n (suc k) s r j is le lt at_r = absurd (omega arith)
-  found_insert (row ∷ base) n zero s r j is le lt at_r =
-      let e : s ≡ n = omega arith in
-      let at_r' = subst (λ m. r + (n + ins_below n) + del_below m ≡ (m + ins_below m + j) + del_below n) e at_r in
-      let lt' = subst (λ m. j < length (inserted_rows (changes_at m es))) e lt in
-      let index : r ≡ j = omega (arith, at_r') in
-      ap (slice_get (merged_rows_from n (row ∷ base) es)) index
-      ∙ first_part (inserted_rows (changes_at n es)) (left_of row (changes_at n es) ++ merged_rows_from (suc n) base es) j lt'
-      ∙ ap (λ m. slice_get (inserted_rows (changes_at m es)) j) (sym e)
+  found_insert (row ∷ base) n zero s r j is le lt at_r = grind (arith, common_steps, first_part)
   found_insert (row ∷ base) n (suc k) s r j is le lt at_r =
       let e : s ≡ suc n + k = omega arith in
       let shorter : k ≤ length base = omega arith in

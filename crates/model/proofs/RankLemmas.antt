@@ -10,6 +10,7 @@ use Rattle.model.specs.Effects.{set_cells, Effects, fits, all_fit, row_after, ta
 use Rattle.model.specs.declared.effect.Effect.{Effect}
 use Rattle.model.specs.declared.effect.Effect.TheVariants.{Ins, Del, Mod, Rep}
 use Rattle.model.proofs.MapsLemmas.{both, first, second, less, below_head, find_below, without_below, below_tied, find-alter, sorted-alter}
+use Rattle.std.proofs.lemmas.Grind.{common_steps}
 
 -- the one key is below the other
 abbrev pub is_below : Key → Key → Bool
@@ -107,13 +108,7 @@ sum_below count k (e ∷ effects) = cond (is_below e.0 k) (count e.1) 0 + sum_be
 rank-alter : (k j : Key) (f : Effect) (t : Table) (old : Option Row) → row_at t j ≡ old → T (is_sorted key_cmp t) → T (fits old f)
     → cond (is_below j k) (deletes_of f) 0 + rank k (alter key_cmp j (row_after f) t)
     ≡ cond (is_below j k) (inserts_of f) 0 + rank k t
-rank-alter k j (Ins row) t None is h fit =
-    let here = rank-put k j row t h ∙ ap (λ (o : Option Row). cond (is_some o) 0 (one_if (is_below j k)) + rank k t) is in
-    nothing (is_below j k) _ ∙ here
-  where
-    nothing : (b : Bool) (n : ℕ) → cond b 0 0 + n ≡ n
-    nothing true n = omega arith
-    nothing false n = omega arith
+rank-alter k j (Ins row) t None is h fit = grind (arith, common_steps, rank-put)
 rank-alter k j (Ins row) t (Some r) is h fit = absurd fit
 rank-alter k j Del t None is h fit = absurd fit
 rank-alter k j Del t (Some r) is h fit =

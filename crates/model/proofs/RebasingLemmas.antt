@@ -1,5 +1,5 @@
 -- A transaction's entries, moved over another's that it doesn't clash with, are its entries over the other's table.
-use Rattle.std.proofs.Common.{◌≡◌, ℕ, ◌+◌, ◌-◌, ◌<◌, ◌≤◌, Bool, true, false, cond, ◌&&◌, ◌||◌, T, Option, Some, None, is_some, List, [], ◌∷◌, ◌++◌, map, length, filter, Ordering, Less, Equal, Greater, is_lt, is_eq, refl, sym, ap, ◌∙◌, subst, arith, length-append}
+use Rattle.std.proofs.Common.{◌≡◌, ℕ, ◌+◌, ◌-◌, ◌<◌, ◌≤◌, Bool, true, false, cond, ◌&&◌, ◌||◌, T, Option, Some, None, is_some, List, [], ◌∷◌, ◌++◌, map, length, filter, Less, Equal, Greater, is_lt, is_eq, refl, sym, ap, ◌∙◌, subst, arith, length-append}
 use Rattle.std.specs.Prelude.{◌==◌, nat_lt}
 use Rattle.std.proofs.lemmas.Bool.Decides.{nat_tests}
 use Rattle.std.proofs.lemmas.List.Elements.{filter-append}
@@ -25,6 +25,7 @@ use Rattle.model.specs.Clashes.{clashes, conflicts}
 use Rattle.model.specs.Rebasing.{stands_first, inserts_before, deletes_before, rebased_entry, rebased_entries}
 use Rattle.model.proofs.MapsLemmas.{both, first, second, less, turn_greater, holds_at, each_at, find_below, below_tied, equal, same_key, left_false, right_false}
 use Rattle.model.proofs.RankLemmas.{is_below, one_if, rank-cons, inserts_of, deletes_of, sum_below, rank-table_with}
+use Rattle.std.proofs.lemmas.Grind.{common_steps}
 
 -- ---- ranks of greater keys
 
@@ -39,10 +40,7 @@ one_le false b f = omega arith
 -- of two keys the smaller has no greater rank
 pub rank-le : (j k : Key) (t : Table) → key_cmp j k ≡ Less → rank j t ≤ rank k t
 rank-le j k [] p = omega arith
-rank-le j k (e ∷ t) p =
-    let head = one_le (is_below e.0 j) (is_below e.0 k) (below_both e.0 j k p) in
-    let rest = rank-le j k t p in
-    omega (arith, rank-cons j e t, rank-cons k e t)
+rank-le j k (e ∷ t) p = grind (arith, common_steps, rank-le j k t p, one_le, is_below, below_both, rank-cons)
 
 -- of two keys the smaller has the lower rank where it is in the table
 pub rank-lt : (j k : Key) (t : Table) → key_cmp j k ≡ Less → T (is_some (row_at t j)) → rank j t < rank k t
@@ -89,10 +87,7 @@ module _ (key_cols : ℕ) (t : Table) where
 
   first_test : (j k : Key) (row other : Row) → T (eq_by_cmp key_cmp j (key_of key_cols row))
       → T (eq_by_cmp key_cmp k (key_of key_cols other)) → stands_first key_cols (Ins row) (Ins other) ≡ is_below j k
-  first_test j k row other p q =
-      let left = sym (same_key j (key_of key_cols row) p) in
-      let right = sym (same_key k (key_of key_cols other) q) in
-      λ i. is_below (left i) (right i)
+  first_test j k row other p q = grind (arith, common_steps, same_key, is_below)
 
   -- an insert of another key stands before a placed change where its key is smaller
   insert_test : (j k : Key) (row : Row) (c : Change) → T (eq_by_cmp key_cmp j (key_of key_cols row)) → T (is_placed k c)
@@ -177,16 +172,10 @@ module _ (key_cols : ℕ) (t : Table) (k : Key) (c : Change) (here : T (is_place
 
   inserts_one : (j : Key) (g : Effect) → T (is_keyed_effect key_cols j g) → T (is_apart j g)
       → length (filter inserts_p (entries_of (rank j t) j g)) ≡ cond (is_below j k) (inserts_of g) 0
-  inserts_one j (effect.Ins row) h apart =
-      ap (λ b. length (cond b (entry_at (rank j t) (Ins row) ∷ []) []))
-      (insert_test key_cols t j k row c h here (apart_of (eq_by_cmp key_cmp k j) false apart refl))
-      ∙ count_one (is_below j k) (entry_at (rank j t) (Ins row))
+  inserts_one j (effect.Ins row) h apart = grind (arith, common_steps, insert_test, apart_of, count_one, is_below)
   inserts_one j effect.Del h apart = zero_if (is_below j k)
   inserts_one j (effect.Mod cells) h apart = no_inserts (rank j t) cells ∙ zero_if (is_below j k)
-  inserts_one j (effect.Rep row) h apart =
-      ap (λ b. length (cond b (entry_at (rank j t) (Ins row) ∷ []) []))
-      (insert_test key_cols t j k row c h here (apart_of (eq_by_cmp key_cmp k j) false apart refl))
-      ∙ count_one (is_below j k) (entry_at (rank j t) (Ins row))
+  inserts_one j (effect.Rep row) h apart = grind (arith, common_steps, insert_test, apart_of, count_one, is_below)
 
   deletes_one : (j : Key) (g : Effect) → T (fits (row_at t j) g)
       → length (filter deletes_p (entries_of (rank j t) j g)) ≡ cond (is_below j k) (deletes_of g) 0
@@ -221,12 +210,7 @@ module _ (key_cols : ℕ) (t : Table) (k : Key) (c : Change) (here : T (is_place
   pub moved_one : (y : Effects) → T (is_sorted key_cmp t) → T (are_keyed_effects key_cols y) → T (all_fit t y)
       → T (list_all (λ e. is_apart e.0 e.1) y)
       → rebased_entry key_cols (canonical_entries t y) (entry_at (rank k t) c) ≡ entry_at (rank k (table_with t y)) c
-  moved_one y ht hy fy apart =
-      let ins = inserts_all y (second _ _ hy) apart in
-      let del = deletes_all y fy in
-      (λ i. entry_at ((rank k t + ins i) - del i) c)
-      ∙ ap (λ n. entry_at n c) (balance (rank k t) (rank k (table_with t y)) (sum_below inserts_of k y) (sum_below deletes_of k y)
-      (rank-table_with k t y ht (first _ _ hy) fy))
+  moved_one y ht hy fy apart = grind (arith, common_steps, inserts_all, second, deletes_all, balance, sum_below, inserts_of, deletes_of, rank-table_with, first)
 
 -- ---- effects that don't clash
 

@@ -1,23 +1,23 @@
 -- Canonical entries by key: they split at any key, and none stands past the last row.
-use Rattle.std.proofs.Common.{◌≡◌, ℕ, ◌≤◌, true, false, cond, not, T, List, [], ◌∷◌, ◌++◌, map, filter, length, Less, is_lt, refl, sym, ap, ◌∙◌, arith, append_assoc}
+use Rattle.std.proofs.Common.{◌≡◌, ℕ, ◌≤◌, true, false, not, T, [], ◌∷◌, ◌++◌, map, filter, length, Less, is_lt, refl, ap, arith, append_assoc, rules}
 use Rattle.std.specs.Bool.{passes}
-use Rattle.std.specs.List.{list_all, All}
+use Rattle.std.specs.List.{All}
 use Rattle.std.specs.FinMap.Entries.{below_all}
 use Rattle.std.proofs.lemmas.List.Elements.{All-nil, All-cons, All-append}
 use Rattle.std.proofs.lemmas.List.Sums.{length-filter, count_by-le-length}
 use Rattle.values.specs.Orders.{key_cmp, key_cmp_total}
 use Rattle.values.specs.Shape.{Columns}
 use Rattle.values.specs.declared.row.Key.{Key}
-use Rattle.model.specs.declared.entry.Entry.{Entry}
 use Rattle.model.specs.declared.entry.Change.TheVariants.{Ins, Del, Mod}
 use Rattle.model.specs.declared.effect.Effect.{Effect}
 use Rattle.model.specs.declared.effect.Effect.TheVariants as effect
 use Rattle.model.specs.Maps.{is_sorted}
 use Rattle.model.specs.Table.{Table, rank}
-use Rattle.model.specs.Effects.{Cells, Effects, is_keyed_effect, are_keyed_effects}
+use Rattle.model.specs.Effects.{Cells, Effects}
 use Rattle.model.specs.Entries.{entry_at, entries_of, canonical_entries}
 use Rattle.model.specs.Laws.{EntriesSplit}
 use Rattle.model.proofs.MapsLemmas.{first, second, less}
+use Rattle.std.proofs.lemmas.Grind.{common_steps}
 
 -- ---- the entries below a key and the rest
 
@@ -34,44 +34,24 @@ module _ (key : Key) where
   filter-none_below : (j : Key) (x : Effects) → is_lt (key_cmp j key) ≡ false → T (below_all key_cmp j x)
       → filter (λ e. is_lt (key_cmp e.0 key)) x ≡ []
   filter-none_below j [] above h = refl
-  filter-none_below j (e ∷ x) above h =
-      ap (λ b. cond b (e ∷ filter (λ e. is_lt (key_cmp e.0 key)) x) (filter (λ e. is_lt (key_cmp e.0 key)) x))
-      (still_above j e.0 above (less _ (first _ _ h)))
-      ∙ filter-none_below j x above (second (is_lt (key_cmp j e.0)) _ h)
+  filter-none_below j (e ∷ x) above h = grind (arith, common_steps, filter-none_below j x above (second (is_lt (key_cmp j e.0)) _ h), still_above, less, first, second)
 
   -- and all are kept among the rest
   filter-all_above : (j : Key) (x : Effects) → is_lt (key_cmp j key) ≡ false → T (below_all key_cmp j x)
       → filter (λ e. not (is_lt (key_cmp e.0 key))) x ≡ x
   filter-all_above j [] above h = refl
-  filter-all_above j (e ∷ x) above h =
-      ap (λ b. cond (not b) (e ∷ filter (λ e. not (is_lt (key_cmp e.0 key))) x) (filter (λ e. not (is_lt (key_cmp e.0 key))) x))
-      (still_above j e.0 above (less _ (first _ _ h)))
-      ∙ ap (λ es. e ∷ es) (filter-all_above j x above (second (is_lt (key_cmp j e.0)) _ h))
+  filter-all_above j (e ∷ x) above h = grind (arith, common_steps, filter-all_above j x above (second (is_lt (key_cmp j e.0)) _ h), still_above, less, first, second)
 
   -- the entries of ascending effects are those of the keys below the key, followed by those of the rest
   canonical_entries-split : (t : Table) (x : Effects) → T (is_sorted key_cmp x)
       → canonical_entries t x ≡ canonical_entries t (filter (λ e. is_lt (key_cmp e.0 key)) x)
       ++ canonical_entries t (filter (λ e. not (is_lt (key_cmp e.0 key))) x)
   canonical_entries-split t [] h = refl
-  canonical_entries-split t (e ∷ x) h =
-      let here : List Entry = entries_of (rank e.0 t) e.0 e.1 in
-      let low : Effects = filter (λ e. is_lt (key_cmp e.0 key)) x in
-      let high : Effects = filter (λ e. not (is_lt (key_cmp e.0 key))) x in
-      elim (is_lt (key_cmp e.0 key)) as (λ b. is_lt (key_cmp e.0 key) ≡ b → here ++ canonical_entries t x
-      ≡ canonical_entries t (cond b (e ∷ low) low) ++ canonical_entries t (cond (not b) (e ∷ high) high)) [
-        | true ↦ λ is. ap (λ es. here ++ es) (canonical_entries-split t x (second (below_all key_cmp e.0 x) _ h)) ∙ sym
-            (append_assoc here (canonical_entries t low) (canonical_entries t high))
-        | false ↦ λ is.
-            let none = filter-none_below e.0 x is (first _ (is_sorted key_cmp x) h) in
-            let all = filter-all_above e.0 x is (first _ (is_sorted key_cmp x) h) in
-            λ i. canonical_entries t (sym none i) ++ canonical_entries t (e ∷ sym all i)
-      ] refl
+  canonical_entries-split t (e ∷ x) h = grind (arith, common_steps, canonical_entries-split t x (second (below_all key_cmp e.0 x) _ h), second, append_assoc, filter-none_below, first, filter-all_above)
 
 -- the entries of effects split at any key
 pub canonical_entries-at_key : (schema : Columns) → EntriesSplit schema
-canonical_entries-at_key schema t x key h =
-    canonical_entries-split key t x
-    (first _ (list_all (λ e. is_keyed_effect schema.key_cols e.0 e.1) x) (passes (are_keyed_effects schema.key_cols x) h.keyed))
+canonical_entries-at_key schema t x key h = grind (arith, common_steps, canonical_entries-split, first)
 
 -- ---- the places of entries
 
@@ -91,9 +71,7 @@ module _ (n m : ℕ) (le : n ≤ m) where
   entries_of-placed key (effect.Ins row) = All-cons (λ e. e.sid ≤ m) (entry_at n (Ins row)) [] le (All-nil (λ e. e.sid ≤ m))
   entries_of-placed key effect.Del = All-cons (λ e. e.sid ≤ m) (entry_at n (Del key)) [] le (All-nil (λ e. e.sid ≤ m))
   entries_of-placed key (effect.Mod cells) = cells_placed cells
-  entries_of-placed key (effect.Rep row) =
-      All-cons (λ e. e.sid ≤ m) (entry_at n (Ins row)) (entry_at n (Del key) ∷ []) le
-      (All-cons (λ e. e.sid ≤ m) (entry_at n (Del key)) [] le (All-nil (λ e. e.sid ≤ m)))
+  entries_of-placed key (effect.Rep row) = search rules
 
 -- no canonical entry stands past the last row
 pub canonical_entries-placed : (t : Table) (x : Effects) → All (λ e. e.sid ≤ length t) (canonical_entries t x)

@@ -1,5 +1,5 @@
 -- Transactions over the base table, computed by the definitions.
-use Rattle.std.proofs.Common.{◌≡◌, ℕ, ◌+◌, ◌≤◌, Option, Some, None, List, [], ◌∷◌, map, length, pos, codes, nat_cmp, lit≤, refl, arith}
+use Rattle.std.proofs.Common.{◌≡◌, ℕ, ◌+◌, ◌≤◌, Option, Some, None, List, [], ◌∷◌, map, length, pos, codes, nat_cmp, lit≤, refl, arith, rules}
 use Rattle.std.specs.Prelude.{slice_set, IsTrue}
 use Rattle.std.specs.List.{list_all}
 use Rattle.values.specs.Shape.{Columns, cell_fault}
@@ -28,7 +28,7 @@ use Rattle.model.specs.Entries.{entry_at, canonical_entries}
 use Rattle.model.specs.declared.clash.ConflictRule.{ConflictRule}
 use Rattle.model.specs.declared.clash.ConflictRule.TheVariants.{ByColumn, ByRow}
 use Rattle.model.specs.History.{Start, Record, IsLegal, IsLegalRecord, writes_of, replies_of, effects_of_record, due_reply, commits_of, table_after, table_with_all}
-use Rattle.model.proofs.HistoryLemmas.{IsSnapshot-table_after}
+use Rattle.std.proofs.lemmas.Grind.{common_steps}
 
 -- ---- what a write that is done makes of the effect on its key
 
@@ -117,14 +117,7 @@ kept : {start : Start} {commits : List Effects} {r : Record} → r.begin ≤ sta
     replies_of r ≡ replies_to schema.key_cols start.limit (table_after start commits r.begin) [] (writes_of r) →
     r.reply ≡ due_reply start commits r.begin (effects_of_record schema start commits r) →
     IsLegalRecord schema start commits r
-kept {start} {commits} {r} begun above fitting answered replied = record {
-  begun = begun;
-  fitting = fitting;
-  snapshot = table_after start commits r.begin;
-  is_snapshot = IsSnapshot-table_after schema start commits r.begin above;
-  answered = answered;
-  replied = replied;
-}
+kept {start} {commits} {r} begun above fitting answered replied = search rules
 
 -- the newest table of a history
 abbrev newest : Start → List Record → Table
@@ -259,13 +252,7 @@ old_begins =
     ∷ []
 
 an_old_begin_is_decided_or_too_old : legal (record (under ByColumn base) { recent = 2 }) old_begins
-an_old_begin_is_decided_or_too_old = (
-  kept (lit≤ tt) (lit≤ tt) refl refl refl,
-  (
-    kept (lit≤ tt) (lit≤ tt) refl refl refl,
-    (kept (lit≤ tt) (lit≤ tt) refl refl refl, (kept (lit≤ tt) (lit≤ tt) refl refl refl, tt)),
-  ),
-)
+an_old_begin_is_decided_or_too_old = grind (arith, common_steps, kept, lit≤)
 
 -- the row limit holds within a transaction and across transactions
 abbrev at_most_four : List Record

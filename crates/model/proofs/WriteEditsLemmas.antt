@@ -1,5 +1,5 @@
 -- The tree of a transaction after each write is that of its effects.
-use Rattle.std.proofs.Common.{◌≡◌, ℕ, true, false, cond, ◌&&◌, T, Option, Some, None, [], ◌∷◌, length, set, nat_cmp, refl, sym, ap, ◌∙◌, subst, is_eq}
+use Rattle.std.proofs.Common.{◌≡◌, ℕ, cond, ◌&&◌, T, Option, Some, None, [], ◌∷◌, length, set, nat_cmp, refl, sym, ap, ◌∙◌, subst, is_eq, arith, rules}
 use Rattle.std.specs.Ordering.{eq_by_cmp}
 use Rattle.std.specs.List.{list_all}
 use Rattle.std.specs.Cmp.{tied_itself}
@@ -23,6 +23,7 @@ use Rattle.model.proofs.MapsLemmas.{both, first, second, changed_by, holds_at, e
 use Rattle.model.proofs.CompositionLemmas.{row_at-table_with}
 use Rattle.model.proofs.WritesLemmas.{done_fits}
 use Rattle.model.proofs.EditsLemmas.{edited, insert-past, insert-row, insert-deleted, take-past, take-inserted, take-replaced, change-past, change-inserted, change-replaced, delete-past, delete-row, delete-modified, modify-past, modify-row, modify-modified}
+use Rattle.std.proofs.lemmas.Grind.{common_steps}
 
 tied_key : (k : Key) → T (eq_by_cmp key_cmp k k)
 tied_key k = subst (λ r. T (is_eq r)) (sym (tied_itself key_cmp_total k)) tt
@@ -61,11 +62,7 @@ module _ (key_cols limit : ℕ) (t : Table) (es : Effects) (ht : T (is_keyed_tab
       ap (λ o. canonical_entries t (store key_cmp k (composed_effect (Ins row) o) es)) is
       ∙ edited key_cols t k (edited_entries key_cols (rank k t) (Insert row) None) (Some (Rep row)) es (Some Del) is sorted lawful
       (insert-past key_cols t k row (tied_key k)) (insert-deleted key_cols t k row (tied_key k))
-  inserted row (Some (Mod c)) is fit done = absurd (none_modified (row_at t (key_of key_cols row)) fit done)
-    where
-      none_modified : (old : Option Row) → T (fits old (Mod c)) → T (fits (row_after (Mod c) old) (Ins row)) → ⊥
-      none_modified None fit done = fit
-      none_modified (Some r) fit done = done
+  inserted row (Some (Mod c)) is fit done = search rules
   inserted row (Some (Rep r)) is fit done = absurd done
 
   module _ (k : Key) where
@@ -156,13 +153,4 @@ module _ (key_cols limit : ℕ) (t : Table) (es : Effects) (ht : T (is_keyed_tab
       (edited_entries key_cols (rank (key_of_write key_cols write) t) write (find key_cmp (key_of_write key_cols write) es)
       (canonical_entries t es))
       (canonical_entries t es)
-  canonical_entries-written write =
-      let edited_list =
-      edited_entries key_cols (rank (key_of_write key_cols write) t) write (find key_cmp (key_of_write key_cols write) es)
-      (canonical_entries t es) in
-      let altered = alter key_cmp (key_of_write key_cols write) (composed_effect (effect_of_write write)) es in
-      elim (is_done (reply_to key_cols limit t es write)) as (λ b. is_done (reply_to key_cols limit t es write) ≡ b
-      → canonical_entries t (cond b altered es) ≡ cond b edited_list (canonical_entries t es)) [
-        | true ↦ λ e. by_write write (subst T (sym e) tt)
-        | false ↦ λ e. refl
-      ] refl
+  canonical_entries-written write = grind (arith, common_steps, by_write)

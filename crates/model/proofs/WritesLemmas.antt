@@ -1,5 +1,5 @@
 -- Effects stay lawful under composition, tables under effects, and both under each write.
-use Rattle.std.proofs.Common.{◌≡◌, ℕ, ◌≤◌, Bool, true, false, cond, ◌&&◌, T, Option, Some, None, is_some, [], ◌∷◌, length, nat_cmp, nat_le, Less, Equal, Greater, is_eq, set, refl, sym, ◌∙◌, subst, arith}
+use Rattle.std.proofs.Common.{◌≡◌, ℕ, ◌≤◌, Bool, true, cond, ◌&&◌, T, Option, Some, None, is_some, [], ◌∷◌, length, nat_cmp, nat_le, Less, Equal, Greater, is_eq, set, refl, sym, ◌∙◌, subst, arith, rules}
 use Rattle.std.proofs.lemmas.Bool.Decides.{nat_tests}
 use Rattle.std.proofs.lemmas.List.{take-set-le}
 use Rattle.std.specs.Ordering.{eq_by_cmp}
@@ -22,6 +22,7 @@ use Rattle.model.specs.declared.effect.Effect.TheVariants.{Ins, Del, Mod, Rep}
 use Rattle.model.specs.Writes.{key_of_write, effect_of_write, reply_where, reply_to, is_done, effects_after}
 use Rattle.model.proofs.MapsLemmas.{both, first, second, changed_by, holds_at, each_at, each_from}
 use Rattle.model.proofs.CompositionLemmas.{cells_ascend, Follows, table_with-composed_effects, all_fit-composed_effects, row_at-table_with, effect_at-composed_effects, sorted-table_with, sorted-composed_effects}
+use Rattle.std.proofs.lemmas.Grind.{common_steps}
 
 -- whether a write sets no key column
 abbrev pub sets_no_key : ℕ → Write → Bool
@@ -57,12 +58,7 @@ module _ (key_cols : ℕ) where
 
   some-put : (c : ℕ) (v : Value) (cells : Cells) → T (has_cells (put nat_cmp c v cells))
   some-put c v [] = tt
-  some-put c v (d ∷ cells) =
-      elim (nat_cmp c d.0) as (λ r. T (has_cells (by_order r ((c, v) ∷ d ∷ cells) ((d.0, v) ∷ cells) (d ∷ put nat_cmp c v cells)))) [
-        | Less ↦ tt
-        | Equal ↦ tt
-        | Greater ↦ tt
-      ]
+  some-put c v (d ∷ cells) = search rules
 
   abbrev is_cells : Cells → Bool
   is_cells cells = has_cells cells && (is_sorted nat_cmp cells && outside cells)
@@ -80,9 +76,7 @@ module _ (key_cols : ℕ) where
   -- ---- one key
 
   outside_of : (cells : Cells) → T (is_cells cells) → T (outside cells)
-  outside_of cells h =
-      let rest : T (is_sorted nat_cmp cells && outside cells) = second (has_cells cells) _ h in
-      second (is_sorted nat_cmp cells) _ rest
+  outside_of cells h = search rules
 
   keyed : (k : Key) (cells : Cells) (row : Row) → T (outside cells) → T (eq_by_cmp key_cmp k (key_of key_cols row))
       → T (eq_by_cmp key_cmp k (key_of key_cols (set_cells cells row)))
@@ -157,9 +151,7 @@ module _ (key_cols : ℕ) where
   ascends_of : (k : Key) (f : Effect) → T (is_keyed_effect key_cols k f) → T (cells_ascend f)
   ascends_of k (Ins row) h = tt
   ascends_of k Del h = tt
-  ascends_of k (Mod cells) h =
-      let rest : T (is_sorted nat_cmp cells && outside cells) = second (has_cells cells) _ h in
-      first (is_sorted nat_cmp cells) _ rest
+  ascends_of k (Mod cells) h = search rules
   ascends_of k (Rep row) h = tt
 
   all_ascend : (effects : Effects) → T (list_all (λ e. is_keyed_effect key_cols e.0 e.1) effects)
@@ -170,14 +162,7 @@ module _ (key_cols : ℕ) where
   -- what the laws of two transactions in turn ask for
   pub follows : (t : Table) (x f : Effects) → T (is_keyed_table key_cols t) → T (are_keyed_effects key_cols x) → T (all_fit t x)
       → T (are_keyed_effects key_cols f) → T (all_fit (table_with t x) f) → Follows t x f
-  follows t x f ht hx fx hf ff = record {
-    table_sorted = first _ _ ht;
-    x_sorted = first _ _ hx;
-    x_ascends = all_ascend x (second _ _ hx);
-    x_fits = fx;
-    f_sorted = first _ _ hf;
-    f_fits = ff;
-  }
+  follows t x f ht hx fx hf ff = grind (arith, common_steps, first, all_ascend, second)
 
   -- ---- one write
 
@@ -228,10 +213,4 @@ module _ (key_cols : ℕ) where
         → IsKept (effects_after key_cols limit t effects write)
         (cond (is_done (reply_to key_cols limit t effects write)) (table_with (table_with t effects) (alone write))
         (table_with t effects))
-    write_kept write hw =
-        elim (is_done (reply_to key_cols limit t effects write)) as (λ b. is_done (reply_to key_cols limit t effects write) ≡ b
-        → IsKept (cond b (composed_effects effects (alone write)) effects)
-        (cond b (table_with (table_with t effects) (alone write)) (table_with t effects))) [
-          | true ↦ λ e. kept_done write hw (subst T (sym e) tt)
-          | false ↦ λ e. record { lawful = he; fit = fe; table_is = refl }
-        ] refl
+    write_kept write hw = grind (arith, common_steps, kept_done)

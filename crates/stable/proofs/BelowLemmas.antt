@@ -1,7 +1,7 @@
 -- A row's key compared with a key cell by cell, and a key's place by halving.
-use Rattle.std.proofs.Common.{◌≡◌, ℕ, zero, suc, ◌+◌, ◌<◌, ◌≤◌, min, true, false, T, Some, List, [], ◌∷◌, length, take, drop, get_or, slice_get, Ordering, Less, Equal, Greater, refl, sym, ap, ◌∙◌, arith}
-use Rattle.std.specs.Ordering.{MatchOrdering, nat_cmp, ordering_then}
-use Rattle.std.specs.Cmp.{ranked, nat_cmp_is}
+use Rattle.std.proofs.Common.{◌≡◌, ℕ, zero, suc, ◌+◌, ◌<◌, ◌≤◌, min, true, false, T, Some, List, [], ◌∷◌, length, take, drop, get_or, slice_get, Ordering, Less, Equal, Greater, refl, sym, ap, ◌∙◌, arith, rules}
+use Rattle.std.specs.Ordering.{nat_cmp, ordering_then}
+use Rattle.std.specs.Cmp.{nat_cmp_is}
 use Rattle.std.proofs.lemmas.Bool.{false_from_ne_true}
 use Rattle.std.proofs.lemmas.List.{drop_more, get_or-take, length-take, get_or_default}
 use Rattle.std.proofs.lemmas.Option.{slice_get-get_or, get_or_from_slice_get, slice_get_within, slice_get_read}
@@ -50,16 +50,7 @@ decided Greater rest h = refl
 
 -- one more on either side leaves the comparison
 cmp_more : (a b : ℕ) → nat_cmp (suc a) (suc b) ≡ nat_cmp a b
-cmp_more a b = sym (nat_cmp_is (suc a) (suc b) (nat_cmp a b) (more (nat_cmp a b) refl))
-  where
-    more : (r : Ordering) → r ≡ nat_cmp a b → MatchOrdering r (suc a < suc b) (suc a ≡ suc b) (suc b < suc a)
-    more Less e =
-        let lt : a < b = ranked a b Less e in
-        omega (arith, lt)
-    more Equal e = ap suc (ranked a b Equal e)
-    more Greater e =
-        let gt : b < a = ranked a b Greater e in
-        omega (arith, gt)
+cmp_more a b = search rules
 
 none_below_some : (b : ℕ) → nat_cmp 0 (suc b) ≡ Less
 none_below_some b = sym (nat_cmp_is 0 (suc b) Less (omega arith))

@@ -1,34 +1,20 @@
 -- A range halved to the bound of a cell.
-use Rattle.std.proofs.Common.{◌≡◌, ℕ, ◌+◌, ◌-◌, ◌*◌, ◌<◌, ◌≤◌, max, min, true, false, inl, inr, List, length, take, drop, sym, ap, ◌∙◌, arith}
-use Rattle.std.proofs.lemmas.Bool.{cases_lt, false_from_ne_true}
+use Rattle.std.proofs.Common.{◌≡◌, ℕ, ◌+◌, ◌-◌, ◌*◌, ◌<◌, ◌≤◌, max, min, true, false, inl, inr, List, length, take, drop, sym, ap, ◌∙◌, arith, rules}
+use Rattle.std.proofs.lemmas.Bool.{cases_lt}
 use Rattle.std.proofs.lemmas.List.{get_or-drop, get_or-take, length-drop, length-take}
 use Rattle.values.specs.declared.value.Value.{Value}
 use Rattle.values.specs.declared.value.Value.TheVariants.{Bool as Truth}
 use Rattle.stable.specs.Bounds.{IsBracket, IsParted, is_before, value_at}
+use Rattle.std.proofs.lemmas.Grind.{common_steps}
 
 module _ (cell : Value) (values : List Value) (start stop : ℕ) (parted : IsParted cell values start stop) (low high middle : ℕ)
     (h : IsBracket cell values start stop low high) (le : low ≤ middle) (lt : middle < high) where
   -- what is before a value that is below the cell is below it too
   pub raised : is_before cell (value_at values middle) ≡ true → IsBracket cell values start stop (middle + 1) high
-  raised passes = record {
-    after = omega (arith, h.after, le);
-    ordered = omega (arith, lt);
-    within = h.within;
-    before = λ k a b. parted k middle a (omega (arith, b)) (omega (arith, lt, h.within)) passes;
-    past = h.past;
-  }
+  raised passes = search rules
 
   pub lowered : is_before cell (value_at values middle) ≡ false → IsBracket cell values start stop low middle
-  lowered fails = record {
-    after = h.after;
-    ordered = le;
-    within = omega (arith, lt, h.within);
-    before = h.before;
-    past =
-        λ k a b. false_from_ne_true (is_before cell (value_at values k)) (λ passes.
-        let clash : true ≡ false = sym (parted middle k (omega (arith, h.after, le)) a b passes) ∙ fails in
-        absurd (cc clash));
-  }
+  lowered fails = search rules
 
 -- ---- a block of the values
 
@@ -86,10 +72,4 @@ module _ (values : List Value) (number : ℕ) (block : List Value) (is : block �
 
       -- the bound in the block that has it is that of the range
       pub block_bracket : IsBracket cell values start stop (1024 * number + r) (1024 * number + r)
-      block_bracket = record {
-        after = omega (arith, from, h.after);
-        ordered = omega arith;
-        within = omega (arith, h.within, to);
-        before = is_before_all;
-        past = is_past_all;
-      }
+      block_bracket = grind (arith, common_steps, is_before_all, is_past_all)

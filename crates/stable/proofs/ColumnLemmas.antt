@@ -1,5 +1,5 @@
 -- Values cut into blocks, and found again by their number.
-use Rattle.std.proofs.Common.{◌≡◌, ℕ, zero, suc, ◌+◌, ◌*◌, ◌/◌, ◌%◌, ◌<◌, List, [], ◌∷◌, ◌++◌, length, take, drop, map, get_or, slice_get, Some, refl, sym, ap, ◌∙◌, arith}
+use Rattle.std.proofs.Common.{◌≡◌, ℕ, zero, suc, ◌+◌, ◌*◌, ◌/◌, ◌%◌, ◌<◌, List, [], ◌∷◌, ◌++◌, length, take, drop, map, get_or, slice_get, Some, refl, sym, ap, ◌∙◌, arith, rules}
 use Rattle.std.specs.List.{range_with_len}
 use Rattle.std.proofs.lemmas.List.{take_all, drop-drop, length-take, length-drop, get_or-take, get_or-drop}
 use Rattle.std.proofs.lemmas.List.FromFn.{length-map-range_with_len, get_or-map-range_with_len}
@@ -8,6 +8,7 @@ use Rattle.values.specs.declared.value.ColumnType.{ColumnType}
 use Rattle.values.specs.declared.value.Value.{Value}
 use Rattle.blocks.specs.Column.{Column}
 use Rattle.stable.specs.Column.{joined, block_at, block_count, first_blocks, IsInBlocks}
+use Rattle.std.proofs.lemmas.Grind.{common_steps}
 
 -- ---- cutting
 
@@ -26,9 +27,7 @@ take_split (suc m) n (suc j) (x ∷ xs) e = ap (λ ys. x ∷ ys) (take_split m n
 
 joined_from : (ty : ColumnType) (values : List Value) (a k : ℕ)
     → joined (map (block_at ty values) (range_with_len a k)) ≡ take (1024 * k) (drop (1024 * a) values)
-joined_from ty values a zero =
-    let none : 1024 * zero ≡ zero = omega arith in
-    sym (ap (λ n. take n (drop (1024 * a) values)) none)
+joined_from ty values a zero = search rules
 joined_from ty values a (suc k) =
     let here = drop (1024 * a) values in
     let next : 1024 * a + 1024 ≡ 1024 * (a + 1) = omega arith in
@@ -39,16 +38,11 @@ joined_from ty values a (suc k) =
 
 -- the blocks of the values hold just these
 pub joined_all : (ty : ColumnType) (values : List Value) → joined (first_blocks ty values (block_count (length values))) ≡ values
-joined_all ty values =
-    let n = block_count (length values) in
-    let none : 1024 * 0 ≡ 0 = omega arith in
-    joined_from ty values 0 n ∙ ap (λ m. take (1024 * n) (drop m values)) none ∙ take_all (1024 * n) values (omega arith)
+joined_all ty values = grind (arith, common_steps, joined_from, take_all)
 
 pub in_blocks : (ty : ColumnType) (values : List Value) (blocks : List Column)
     → blocks ≡ first_blocks ty values (block_count (length values)) → IsInBlocks ty (length values) blocks
-in_blocks ty values blocks e =
-    let same : joined blocks ≡ values = ap joined e ∙ joined_all ty values in
-    record { counted = ap length same; cut = e ∙ ap (λ vs. first_blocks ty vs (block_count (length values))) (sym same) }
+in_blocks ty values blocks e = grind (arith, common_steps, joined_all)
 
 -- ---- finding
 
@@ -58,10 +52,7 @@ module _ (ty : ColumnType) (count : ℕ) (blocks : List Column) (h : IsInBlocks 
 
   -- a block, by its number
   pub block_here : (k : ℕ) (b : Column) → b ≡ get_or blocks k b → k < block_count count → b ≡ block_at ty (joined blocks) k
-  block_here k b is lt =
-      is
-      ∙ ap (λ bs. get_or bs k b) h.cut
-      ∙ get_or-map-range_with_len (block_at ty (joined blocks)) 0 (block_count count) k k b lt (omega arith)
+  block_here k b is lt = grind (arith, common_steps, get_or-map-range_with_len)
 
   module _ (i : ℕ) (within : i < count) where
     pub has_block : i / 1024 < length blocks

@@ -1,5 +1,5 @@
 -- The rows that columns show, compared and tested row by row.
-use Rattle.std.proofs.Common.{◌≡◌, ℕ, zero, suc, ◌+◌, ◌-◌, ◌<◌, ◌≤◌, nat_lt, Bool, true, false, cond, ◌&&◌, not, Option, Some, None, List, [], ◌∷◌, length, take, drop, map, get_or, slice_get, Ordering, is_lt, refl, sym, ap, ◌∙◌, arith}
+use Rattle.std.proofs.Common.{◌≡◌, ℕ, zero, suc, ◌+◌, ◌-◌, ◌<◌, ◌≤◌, nat_lt, Bool, true, false, cond, ◌&&◌, not, Option, Some, None, List, [], ◌∷◌, length, take, drop, map, get_or, slice_get, Ordering, is_lt, refl, sym, ap, ◌∙◌, arith, rules}
 use Rattle.std.specs.Prelude.{◌==◌}
 use Rattle.std.specs.Ordering.{ordering_then}
 use Rattle.std.specs.List.{All}
@@ -9,8 +9,8 @@ use Rattle.std.proofs.lemmas.List.Sums.{AllPass-from_list_all}
 use Rattle.std.proofs.lemmas.List.FromFn.{get_or-map-range_with_len}
 use Rattle.std.proofs.lemmas.Option.{get_or_from_slice_get}
 use Rattle.values.specs.Orders.{value_cmp, key_cmp}
-use Rattle.values.specs.Shape.{Columns, key_of, has_type, is_too_long, value_fault, values_fault, list_fault, row_fault, or_fault}
-use Rattle.values.specs.declared.fault.ShapeFault.TheVariants.{WrongCount, WrongType, TextTooLong}
+use Rattle.values.specs.Shape.{Columns, key_of, has_type, is_too_long, value_fault, values_fault, row_fault, or_fault}
+use Rattle.values.specs.declared.fault.ShapeFault.TheVariants.{WrongType, TextTooLong}
 use Rattle.values.specs.declared.limits.TheConstants.{MAX_ROWS}
 use Rattle.values.specs.declared.row.Row.{Row}
 use Rattle.values.specs.declared.value.ColumnType.{ColumnType}
@@ -23,6 +23,7 @@ use Rattle.stable.specs.Stable as table
 use Rattle.stable.specs.declared.fault.BuildFault.{BuildFault}
 use Rattle.stable.specs.declared.fault.BuildFault.TheVariants.{TooManyRows}
 use Rattle.stable.proofs.RowsLemmas.{length_rows}
+use Rattle.std.proofs.lemmas.Grind.{common_steps}
 
 -- ---- two rows compared
 
@@ -81,14 +82,7 @@ module _ (schema : Columns) (count : ℕ) (columns : List Column) where
 
 module _ (schema : Columns) (count : ℕ) (columns : List Column) (h : AreColumns schema count columns) where
   row_fits : (sid : ℕ) → sid < count → row_fault schema (row_at columns sid) ≡ None
-  row_fits sid lt =
-      let filled : (col : ℕ) (d : Column) → col < length columns → sid < length (get_or columns col d).values =
-      λ col d within. omega (arith, h.filled col d within, lt) in
-      let wide = length-map columns (cell_at sid) ∙ sym (length-map columns (λ c. c.ty)) in
-      ap (λ types. list_fault types (row_at columns sid)) (sym h.typed)
-      ∙ ap (λ same. cond same (values_fault 0 (map (λ c. c.ty) columns) (row_at columns sid)) (Some WrongCount))
-      (equal (length (row_at columns sid)) (length (map (λ c. c.ty) columns)) wide)
-      ∙ cells_fit 0 columns sid h.fit filled
+  row_fits sid lt = grind (arith, common_steps, length-map, equal, cells_fit)
 
   abbrev rows : List Row
   rows = rows_of count columns
@@ -101,32 +95,16 @@ module _ (schema : Columns) (count : ℕ) (columns : List Column) (h : AreColumn
   pub next_faults : (sid : ℕ) → sid < count
       → faults_from schema count columns sid ≡ table.or_fault (table.shape_or_order sid (is_above schema count columns sid) None)
       (faults_from schema count columns (sid + 1))
-  next_faults sid lt =
-      let same : sid + 1 - 1 ≡ sid = omega arith in
-      let next : sid + 1 ≡ suc sid = omega arith in
-      ap (table.rows_fault schema sid (Some (row_at columns (sid - 1)))) (cut sid lt)
-      ∙ ap (λ f. table.or_fault (table.shape_or_order sid (is_above schema count columns sid) f)
-      (table.rows_fault schema (suc sid) (Some (row_at columns sid)) (drop (sid + 1) rows))) (row_fits sid lt)
-      ∙ sym (λ i. table.or_fault (table.shape_or_order sid (is_above schema count columns sid) None)
-      (table.rows_fault schema (next i) (Some (row_at columns (same i))) (drop (sid + 1) rows)))
+  next_faults sid lt = grind (arith, common_steps, cut, row_fits)
 
   pub ended : (sid : ℕ) → count ≤ sid → faults_from schema count columns sid ≡ None
-  ended sid le =
-      ap (table.rows_fault schema sid (Some (row_at columns (sid - 1))))
-      (drop_all sid rows (omega (arith, le, length_rows count columns)))
+  ended sid le = grind (arith, common_steps, drop_all, length_rows)
 
   pub counted_few : count ≤ MAX_ROWS → table.build_fault schema rows ≡ table.rows_fault schema 0 None rows
-  counted_few le =
-      ap (λ many. cond many (Some TooManyRows) (table.rows_fault schema 0 None rows))
-      (not_more MAX_ROWS (length rows) (omega (arith, le, length_rows count columns)))
+  counted_few le = grind (arith, common_steps, not_more, length_rows)
 
   pub counted_many : MAX_ROWS < count → table.build_fault schema rows ≡ Some TooManyRows
-  counted_many lt =
-      ap (λ many. cond many (Some TooManyRows) (table.rows_fault schema 0 None rows))
-      (many MAX_ROWS (length rows) (omega (arith, lt, length_rows count columns)))
-    where
-      many : (a b : ℕ) → a < b → nat_lt a b ≡ true
-      many a b l = grind (arith, nat_tests, l)
+  counted_many lt = grind (arith, common_steps, length_rows, nat_tests)
 
 -- the first row has no row before it
 pub first_faults : (schema : Columns) (count : ℕ) (columns : List Column) → AreColumns schema count columns
@@ -144,6 +122,4 @@ first_faults schema (suc n) columns h =
 pub count_more : (columns : List Column) (n : ℕ) (c : Column) → AreEven columns → n < length columns → c ≡ get_or columns n c
     → length c.values ≡ row_count (take (n + 1) columns)
 count_more [] n c even lt is = absurd (omega arith)
-count_more (x ∷ columns) n c even lt is =
-    let next : n + 1 ≡ suc n = omega arith in
-    ap (λ (d : Column). length d.values) is ∙ even n c lt ∙ ap (λ k. row_count (take k (x ∷ columns))) (sym next)
+count_more (x ∷ columns) n c even lt is = search rules

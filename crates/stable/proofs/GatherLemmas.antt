@@ -14,6 +14,7 @@ use Rattle.blocks.specs.Places.{IsPlaceOf, block_of, value_at}
 use Rattle.stable.specs.Column.{joined, IsInBlocks, all_may_stand}
 use Rattle.stable.proofs.ColumnLemmas.{has_block, has_place, finds}
 use Rattle.stable.proofs.ExtendLemmas.{stands_at}
+use Rattle.std.proofs.lemmas.Grind.{common_steps}
 
 module _ (ty : ColumnType) (count : ℕ) (blocks : List Column) (h : IsInBlocks ty count blocks) where
   module _ (i : ℕ) (lt : i < count) where
@@ -36,9 +37,7 @@ module _ (ty : ColumnType) (count : ℕ) (blocks : List Column) (h : IsInBlocks 
     value-is = sym (get_or_from_slice_get (joined blocks) i (value_at blocks i) (Truth false) found)
 
     pub place-is : all_may_stand ty (joined blocks) → IsPlaceOf ty blocks i
-    place-is fit =
-        let stands = stands_at ty (joined blocks) i (value_at blocks i) found fit in
-        record { there = has_block ty count blocks h i lt; within = within; typed = stands.0; short = stands.1 }
+    place-is fit = grind (arith, common_steps, stands_at, found, has_block, within)
 
   pub values-are : (places : List ℕ) → All (λ place. place < count) places
       → map (value_at blocks) places ≡ map (λ place. get_or (joined blocks) place (Truth false)) places

@@ -1,8 +1,8 @@
 -- A number's place among ascending ones, found by halving: the block first, then the place in it.
-use Rattle.std.proofs.Common.{◌≡◌, ℕ, ℤ, ◌+◌, ◌-◌, ◌*◌, ◌<◌, ◌≤◌, Bool, true, false, cond, Less, Equal, Greater, is_lt, int_lt, pos, inl, inr, Bor, List, [], ◌∷◌, length, map, drop, get_or, refl, sym, ap, ◌∙◌, arith}
+use Rattle.std.proofs.Common.{◌≡◌, ℕ, ℤ, ◌+◌, ◌-◌, ◌*◌, ◌<◌, ◌≤◌, Bool, true, false, int_lt, pos, inl, inr, Bor, List, [], ◌∷◌, length, map, drop, get_or, refl, sym, ap, ◌∙◌, arith}
 use Rattle.std.specs.List.Sorted.{IsPartitionedBy, IsPartitionPoint}
 use Rattle.std.proofs.lemmas.Bool.{cases_lt, false_from_ne_true}
-use Rattle.std.proofs.lemmas.List.{length-map, get_or-map, get_or-take, get_or-drop, get_or_default, length-take, length-drop}
+use Rattle.std.proofs.lemmas.List.{length-map, get_or-take, get_or-drop, get_or_default, length-take, length-drop}
 use Rattle.values.specs.declared.value.ColumnType.TheVariants as column
 use Rattle.values.specs.declared.value.Value.{Value}
 use Rattle.values.specs.declared.value.Value.TheVariants.{Int, Text, Bool as Truth}
@@ -12,6 +12,7 @@ use Rattle.blocks.specs.declared.block.BlockValues.{BlockValues}
 use Rattle.blocks.specs.declared.block.BlockValues.TheVariants as block
 use Rattle.stable.specs.Column.{joined, block_at, block_count, is_below, IsInBlocks}
 use Rattle.stable.proofs.ColumnLemmas.{length_blocks, block_here}
+use Rattle.std.proofs.lemmas.Grind.{common_steps}
 
 -- whether a block's first value is below a number
 abbrev pub begins : ℤ → Column → Bool
@@ -151,21 +152,9 @@ module _ (number : ℤ) (blocks : List Column) (h : IsInBlocks column.Int (lengt
 
 -- ---- numbers
 
-lt_test : (a b : Bool) → is_lt (cond a Less (cond b Greater Equal)) ≡ a
-lt_test true b = refl
-lt_test false true = refl
-lt_test false false = refl
-
--- whether a number is below another
-below-number : (x number : ℤ) → is_below number (Int x) ≡ int_lt x number
-below-number x number = lt_test (int_lt x number) (int_lt number x)
-
 module _ (number : ℤ) (xs : List ℤ) (b : Column) (lent : record { ty = column.Int; values = map Int xs } ≡ b) where
   number_at : (k : ℕ) (d : Value) (e : ℤ) → k < length xs → is_below number (get_or b.values k d) ≡ int_lt (get_or xs k e) number
-  number_at k d e lt =
-      ap (λ (c : Column). is_below number (get_or c.values k d)) (sym lent)
-      ∙ ap (is_below number) (get_or-map Int xs k e d lt)
-      ∙ below-number (get_or xs k e) number
+  number_at k d e lt = grind (arith, common_steps)
 
   pub as_many : length xs ≡ length b.values
   as_many = sym (length-map xs Int) ∙ ap (λ (c : Column). length c.values) lent

@@ -1,9 +1,8 @@
 -- A table whose key is one column of numbers: keys compare as the numbers do.
-use Rattle.std.proofs.Common.{◌≡◌, ℕ, ℤ, ◌<◌, ◌≤◌, true, false, T, List, [], ◌∷◌, length, get_or, Ordering, Less, Equal, Greater, is_lt, refl, sym, ap, ◌∙◌, arith}
+use Rattle.std.proofs.Common.{◌≡◌, ℕ, ℤ, ◌<◌, ◌≤◌, true, false, T, List, [], ◌∷◌, length, get_or, sym, ap, ◌∙◌, arith}
 use Rattle.std.specs.List.Sorted.{IsPartitionedBy, IsPartitionPoint}
-use Rattle.std.specs.Ordering.{ordering_then}
-use Rattle.std.proofs.lemmas.List.{length-map, get_or-map, get_or_default}
-use Rattle.values.specs.Orders.{key_cmp, value_cmp}
+use Rattle.std.proofs.lemmas.List.{length-map, get_or_default}
+use Rattle.values.specs.Orders.{key_cmp}
 use Rattle.values.specs.Shape.{Columns}
 use Rattle.values.specs.declared.row.Row.{Row}
 use Rattle.values.specs.declared.value.Value.{Value}
@@ -15,24 +14,12 @@ use Rattle.stable.specs.Column.{is_below}
 use Rattle.stable.specs.Rows.{IsKept, column_values, rows_of}
 use Rattle.stable.proofs.RowsLemmas.{length_rows, row_width}
 use Rattle.stable.proofs.RankLemmas.{is_below_key, parted, rank-point}
-
--- a comparison that nothing follows
-alone : (o : Ordering) → ordering_then o (key_cmp [] []) ≡ o
-alone Less = refl
-alone Equal = refl
-alone Greater = refl
-
--- a row is below a key of one number where its first cell is below the number
-below_key : (number : ℤ) (row : Row) → 0 < length row → is_below_key 1 (Int number ∷ []) row ≡ is_below number (get_or row 0 (Truth false))
-below_key number [] some = absurd (omega arith)
-below_key number (v ∷ row) some = ap is_lt (alone (value_cmp v (Int number)))
+use Rattle.std.proofs.lemmas.Grind.{common_steps}
 
 module _ (number : ℤ) (rows : List Row) (filled : (k : ℕ) (d : Row) → k < length rows → 0 < length (get_or rows k d)) where
   below_at : (k : ℕ) (d : Value) → k < length rows
       → is_below number (get_or (column_values 0 rows) k d) ≡ is_below_key 1 (Int number ∷ []) (get_or rows k [])
-  below_at k d lt =
-      ap (is_below number) (get_or-map (λ (row : Row). get_or row 0 (Truth false)) rows k [] d lt)
-      ∙ sym (below_key number (get_or rows k []) (filled k [] lt))
+  below_at k d lt = grind (arith, common_steps)
 
   pub as_many : length (column_values 0 rows) ≡ length rows
   as_many = length-map rows (λ (row : Row). get_or row 0 (Truth false))

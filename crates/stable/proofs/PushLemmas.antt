@@ -8,6 +8,7 @@ use Rattle.values.specs.declared.value.Value.{Value}
 use Rattle.blocks.specs.Column.{Column}
 use Rattle.stable.specs.Column.{joined, block_at, block_count, first_blocks, all_blocks, IsInBlocks}
 use Rattle.stable.proofs.ColumnLemmas.{in_blocks, joined_all, length_blocks}
+use Rattle.std.proofs.lemmas.Grind.{common_steps}
 
 module _ (ty : ColumnType) (values more : List Value) where
   -- a full block of the values stays when there are more
@@ -85,11 +86,7 @@ module _ (ty : ColumnType) (count : ℕ) (blocks : List Column) (h : IsInBlocks 
       front = length-map-range_with_len (block_at ty values) 0 place
 
       pub last_is : b ≡ block_at ty values place
-      last_is =
-          is
-          ∙ ap (λ bs. get_or bs place b) h.cut
-          ∙ get_or-map-range_with_len (block_at ty values) 0 (block_count count) place place b (omega (arith, counts))
-          (omega arith)
+      last_is = grind (arith, common_steps, get_or-map-range_with_len, counts)
 
       rest : drop (1024 * place) values ≡ take 1024 (drop (1024 * place) values)
       rest = sym (take_all 1024 (drop (1024 * place) values) (omega (arith, length-drop (1024 * place) values, h.counted)))

@@ -1,5 +1,5 @@
 -- A key's place in a table, found by halving.
-use Rattle.std.proofs.Common.{◌≡◌, ℕ, zero, suc, ◌<◌, ◌≤◌, Bool, true, false, cond, T, Some, is_some, List, [], ◌∷◌, length, get_or, Ordering, Less, Equal, Greater, is_lt, is_eq, refl, sym, ap, ◌∙◌, subst, arith}
+use Rattle.std.proofs.Common.{◌≡◌, ℕ, zero, suc, ◌<◌, ◌≤◌, Bool, true, false, cond, T, Some, is_some, List, [], ◌∷◌, length, get_or, Ordering, Less, Equal, Greater, is_lt, is_eq, refl, sym, ap, ◌∙◌, subst, arith, rules}
 use Rattle.std.specs.Prelude.{slice_get, filter}
 use Rattle.std.specs.List.Sorted.{IsPartitionedBy, IsPartitionPoint}
 use Rattle.std.specs.FinMap.Entries.{below_all}
@@ -12,6 +12,7 @@ use Rattle.model.specs.Maps.{is_sorted}
 use Rattle.model.specs.Table.{table_of, row_at, rank}
 use Rattle.model.proofs.CallerLemmas.{both, first, second, less, find_first, turn_less, turn_greater, find_below, find_past, below_less, rank_below}
 use Rattle.stable.specs.Stable.{holds_key}
+use Rattle.std.proofs.lemmas.Grind.{common_steps}
 
 module _ (key_cols : ℕ) (key : Key) where
   -- whether a row is below the key
@@ -20,17 +21,11 @@ module _ (key_cols : ℕ) (key : Key) where
 
   rank-below : (row : Row) (rows : List Row) → key_cmp (key_of key_cols row) key ≡ Less
       → rank key (table_of key_cols (row ∷ rows)) ≡ suc (rank key (table_of key_cols rows))
-  rank-below row rows h =
-      ap
-      (λ r. length (cond (is_lt r) ((key_of key_cols row, row) ∷ filter (λ e. is_lt (key_cmp e.0 key)) (table_of key_cols rows))
-      (filter (λ e. is_lt (key_cmp e.0 key)) (table_of key_cols rows))))
-      h
+  rank-below row rows h = search rules
 
   rank-none : (row : Row) (rows : List Row) (r : Ordering) → key_cmp (key_of key_cols row) key ≡ r → is_lt r ≡ false
       → rank key (table_of key_cols (row ∷ rows)) ≡ rank key (table_of key_cols rows)
-  rank-none row rows r h above =
-      ap (λ b. length (cond b ((key_of key_cols row, row) ∷ filter (λ e. is_lt (key_cmp e.0 key)) (table_of key_cols rows))
-      (filter (λ e. is_lt (key_cmp e.0 key)) (table_of key_cols rows)))) (ap is_lt h ∙ above)
+  rank-none row rows r h above = search rules
 
   -- the place of the first that isn't below is the key's
   pub rank-point : (rows : List Row) (n : ℕ) → n ≤ length rows
@@ -71,13 +66,9 @@ module _ (key_cols : ℕ) (key : Key) where
   pub parted : (rows : List Row) → T (is_sorted key_cmp (table_of key_cols rows)) → IsPartitionedBy is_below_key rows
   parted [] h i j d le lt passes = absurd (omega arith)
   parted (row ∷ rows) h zero zero d le lt passes = passes
-  parted (row ∷ rows) h zero (suc j) d le lt passes =
-      below_earlier row rows (first (below_all key_cmp (key_of key_cols row) (table_of key_cols rows)) _ h) j d (omega arith)
-      passes
+  parted (row ∷ rows) h zero (suc j) d le lt passes = grind (arith, common_steps, below_earlier, first)
   parted (row ∷ rows) h (suc i) zero d le lt passes = absurd (omega arith)
-  parted (row ∷ rows) h (suc i) (suc j) d le lt passes =
-      parted rows (second (below_all key_cmp (key_of key_cols row) (table_of key_cols rows)) _ h) i j d (omega arith)
-      (omega arith) passes
+  parted (row ∷ rows) h (suc i) (suc j) d le lt passes = grind (arith, common_steps, parted rows (second (below_all key_cmp (key_of key_cols row) (table_of key_cols rows)) _ h) i j d (omega arith) (omega arith) passes, second)
 
   -- the key is there where the row at its place has it
   pub there-at_rank : (rows : List Row) → T (is_sorted key_cmp (table_of key_cols rows))

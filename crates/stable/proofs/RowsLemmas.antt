@@ -1,5 +1,5 @@
 -- Rows as columns, and columns as rows.
-use Rattle.std.proofs.Common.{◌≡◌, ℕ, zero, suc, ◌<◌, Bool, true, false, cond, ◌&&◌, Option, Some, None, List, [], ◌∷◌, length, map, get_or, slice_get, refl, sym, ap, subst, ◌∙◌, arith}
+use Rattle.std.proofs.Common.{◌≡◌, ℕ, zero, suc, ◌<◌, Bool, true, false, cond, ◌&&◌, Option, Some, None, List, [], ◌∷◌, length, map, get_or, slice_get, refl, sym, ap, subst, ◌∙◌, arith, rules}
 use Rattle.std.specs.Prelude.{◌==◌}
 use Rattle.std.specs.List.{range_with_len}
 use Rattle.std.proofs.lemmas.Bool.Decides.{nat_tests}
@@ -19,18 +19,13 @@ use Rattle.blocks.specs.Column.{Column}
 use Rattle.stable.specs.Stable.{IsStable, build_fault}
 use Rattle.stable.specs.Rows.{cell_at, row_at, rows_of, column_values, column_at, first_columns, IsKept}
 use Rattle.stable.proofs.StableLemmas.{is_stable, all_shaped}
+use Rattle.std.proofs.lemmas.Grind.{common_steps}
 
 -- ---- values that fit
 
 pub record IsFit (ty : ColumnType) (v : Value) : Type 0 where
   pub typed : has_type ty v ≡ true
   pub short : is_too_long v ≡ false
-
-fit_from : (ty : ColumnType) (v : Value) (a b : Bool) (x y : ShapeFault) → has_type ty v ≡ a → is_too_long v ≡ b
-    → cond a (cond b (Some x) None) (Some y) ≡ None → IsFit ty v
-fit_from ty v true true x y p q h = cc h
-fit_from ty v true false x y p q h = record { typed = p; short = q }
-fit_from ty v false b x y p q h = cc h
 
 neither : (a b : Option ShapeFault) → or_fault a b ≡ None → (a ≡ None) × (b ≡ None)
 neither None b h = (refl, h)
@@ -40,9 +35,7 @@ cells_fit : (n : ℕ) (types : List ColumnType) (values : List Value) (col : ℕ
     → values_fault n types values ≡ None → IsFit (get_or types col column.Int) (get_or values col (Truth false))
 cells_fit n [] values col same lt h = absurd (omega arith)
 cells_fit n (ty ∷ types) [] col same lt h = absurd (omega (arith, same))
-cells_fit n (ty ∷ types) (v ∷ values) zero same lt h =
-    fit_from ty v (has_type ty v) (is_too_long v) _ _ refl refl
-    (neither (value_fault ty n v) (values_fault (suc n) types values) h).0
+cells_fit n (ty ∷ types) (v ∷ values) zero same lt h = search rules
 cells_fit n (ty ∷ types) (v ∷ values) (suc col) same lt h =
     cells_fit (suc n) types values col (omega (arith, same)) (omega (arith, lt))
     (neither (value_fault ty n v) (values_fault (suc n) types values) h).1
@@ -98,16 +91,11 @@ module _ (schema : Columns) (count : ℕ) (columns : List Column) (h : IsKept sc
 
   -- each row has a value for each column
   pub row_width : (sid : ℕ) → sid < count → length (get_or (rows_of count columns) sid []) ≡ length schema.types
-  row_width sid within =
-      ap (λ (row : Row). length row) (get_or-map-range_with_len (row_at columns) 0 count sid sid [] within (omega arith))
-      ∙ length-map columns (cell_at sid)
-      ∙ width
+  row_width sid within = grind (arith, common_steps, get_or-map-range_with_len, length-map, width)
 
   module _ (sid col : ℕ) (x : Column) (is : x ≡ get_or columns col x) (lt : col < length schema.types) (within : sid < count) where
     pub has_value : sid < length x.values
-    has_value =
-        let n = h.filled col x (omega (arith, width, lt)) in
-        omega (arith, ap (λ (c : Column). length c.values) is, n, within)
+    has_value = grind (arith, common_steps)
 
     pub finds_cell : (v : Value) → slice_get x.values sid ≡ Some v → slice_get (get_or (rows_of count columns) sid []) col ≡ Some v
     finds_cell v e =

@@ -1,5 +1,5 @@
 -- A key's place among rows that have its first cells.
-use Rattle.std.proofs.Common.{◌≡◌, ℕ, zero, suc, ◌+◌, ◌-◌, ◌<◌, ◌≤◌, true, false, T, List, [], ◌∷◌, length, drop, get_or, Ordering, Less, Equal, Greater, is_lt, inl, inr, refl, sym, ap, ◌∙◌, subst, arith}
+use Rattle.std.proofs.Common.{◌≡◌, ℕ, zero, suc, ◌+◌, ◌-◌, ◌<◌, ◌≤◌, true, false, T, List, [], ◌∷◌, length, drop, get_or, Ordering, Less, Equal, Greater, is_lt, inl, inr, refl, sym, ap, ◌∙◌, arith, rules}
 use Rattle.std.specs.Ordering.{ordering_reverse, ordering_then}
 use Rattle.std.specs.FinMap.Entries.{below_all}
 use Rattle.std.proofs.lemmas.Bool.{cases_lt}
@@ -22,6 +22,7 @@ use Rattle.stable.specs.Spans.{HasCells, IsSpan, is_row_below}
 use Rattle.stable.specs.Stable.{Stable}
 use Rattle.stable.proofs.RankLemmas.{rank-point}
 use Rattle.stable.proofs.RowsLemmas.{length_rows, row_width}
+use Rattle.std.proofs.lemmas.Grind.{common_steps}
 
 -- keys that tie in the cells before one compare from that one on
 met_at : (own key : List Value) (col : ℕ) → col < length own → col < length key
@@ -49,12 +50,7 @@ drop_tied (x ∷ own) (y ∷ key) (suc n) lt within same =
 
 -- one cell more
 pub more_cells : (n : ℕ) (key : Key) (row : Row) → HasCells n key row → value_at row n ≡ value_at key n → HasCells (n + 1) key row
-more_cells n key row h is c lt = elim (cases_lt c n) [
-  | inl early ↦ h c early
-  | inr late ↦
-      let same : c ≡ n = omega (arith, late, lt) in
-      ap (value_at row) same ∙ is ∙ ap (value_at key) (sym same)
-]
+more_cells n key row h is c lt = search rules
 
 -- nothing is below a key of no cells
 none_below : (own : List Value) → is_lt (key_cmp own []) ≡ false
@@ -240,12 +236,7 @@ module _ (n : ℕ) (key : Key) (rows : List Row) (wide : (k : ℕ) → k < lengt
       -- a row is below the key where its cell is below the key's last
       row_below : (k : ℕ) → low ≤ k → k < high
           → is_row_below n key rows k ≡ is_before (value_at key col) (value_at (column_values col rows) k)
-      row_below k le lt =
-          ap is_lt (compared k le lt)
-          ∙ row_is (value_cmp (cell k) (value_at key col)) (key_cmp (drop (suc col) (own k)) (drop (suc col) key))
-          (ap (λ (ys : List Value). is_lt (key_cmp (drop (suc col) (own k)) ys)) (none_left key (suc col) (omega (arith, end)))
-          ∙ none_below (drop (suc col) (own k)))
-          ∙ ap (is_before (value_at key col)) (sym (column_cell k lt))
+      row_below k le lt = grind (arith, common_steps, compared, row_is, none_left, none_below, column_cell)
 
       pub rank-bound : (r : ℕ) → IsBracket (value_at key col) (column_values col rows) low high r r
           → r ≡ rank key (table_of n rows)
@@ -272,6 +263,4 @@ module _ (n : ℕ) (key : Key) (rows : List Row) (wide : (k : ℕ) → k < lengt
 pub wide_rows : (schema : Columns) (count : ℕ) (columns : List Column) → IsKept schema count columns
     → schema.key_cols ≤ length schema.types → (s : Stable) → record { schema = schema; rows = rows_of count columns } ≡ s
     → (k : ℕ) → k < length s.rows → s.schema.key_cols ≤ length (get_or s.rows k [])
-wide_rows schema count columns h key s is =
-    subst (λ (t : Stable). (k : ℕ) → k < length t.rows → t.schema.key_cols ≤ length (get_or t.rows k [])) is (λ k lt.
-    omega (arith, key, row_width schema count columns h k (omega (arith, lt, length_rows count columns))))
+wide_rows schema count columns h key s is = grind (arith, common_steps, row_width, length_rows)

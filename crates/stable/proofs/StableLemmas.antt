@@ -1,5 +1,5 @@
 -- Rows without a fault are a table.
-use Rattle.std.proofs.Common.{◌≡◌, ℕ, zero, suc, ◌<◌, get_or, ◌≤◌, Bool, true, false, cond, T, Option, Some, None, List, [], ◌∷◌, length, is_lt, refl, sym, subst, arith}
+use Rattle.std.proofs.Common.{◌≡◌, ℕ, zero, suc, ◌<◌, get_or, Bool, true, false, cond, T, Option, Some, None, List, [], ◌∷◌, length, is_lt, refl, sym, subst, arith, rules}
 use Rattle.std.specs.Prelude.{nat_lt, is_none, IsTrue}
 use Rattle.std.specs.List.{list_all}
 use Rattle.std.proofs.lemmas.Bool.Decides.{nat_tests}
@@ -13,9 +13,10 @@ use Rattle.values.specs.declared.row.Row.{Row}
 use Rattle.model.specs.Maps.{is_sorted}
 use Rattle.model.specs.Table.{table_of, is_keyed_table}
 use Rattle.model.proofs.CallerLemmas.{both, first, less, below_less, is_keyed_table-table_of}
-use Rattle.stable.specs.Stable.{Stable, IsStable, table_in, ascends, shape_or_order, row_fault_at, or_fault, rows_fault, build_fault}
+use Rattle.stable.specs.Stable.{Stable, IsStable, table_in, ascends, row_fault_at, or_fault, rows_fault, build_fault}
 use Rattle.stable.specs.declared.fault.BuildFault.{BuildFault}
 use Rattle.stable.specs.declared.fault.BuildFault.TheVariants.{TooManyRows}
+use Rattle.std.proofs.lemmas.Grind.{common_steps}
 
 is_true : (b : Bool) → T b → IsTrue b
 is_true true h = refl
@@ -30,17 +31,10 @@ neither : (a b : Option BuildFault) → or_fault a b ≡ None → (a ≡ None) �
 neither None b h = (refl, h)
 neither (Some fault) b h = cc h
 
-fine : (i : ℕ) (above : Bool) (fault : Option ShapeFault) → shape_or_order i above fault ≡ None → IsFine above fault
-fine i above (Some fault) h = cc h
-fine i true None h = record { ascends = tt; fits = refl }
-fine i false None h = cc h
-
 module _ (schema : Columns) where
   module _ (i : ℕ) (before : Option Row) (row : Row) (rows : List Row) (h : rows_fault schema i before (row ∷ rows) ≡ None) where
     here : IsFine (ascends schema.key_cols before row) (row_fault schema row)
-    here =
-        fine i (ascends schema.key_cols before row) (row_fault schema row)
-        (neither (row_fault_at schema i before row) (rows_fault schema (suc i) (Some row) rows) h).0
+    here = search rules
 
     rest : rows_fault schema (suc i) (Some row) rows ≡ None
     rest = (neither (row_fault_at schema i before row) (rows_fault schema (suc i) (Some row) rows) h).1
@@ -76,9 +70,7 @@ module _ (schema : Columns) where
 
   sorted : (rows : List Row) → rows_fault schema 0 None rows ≡ None → T (is_sorted key_cmp (table_of schema.key_cols rows))
   sorted [] h = tt
-  sorted (row ∷ rows) h =
-      let after = above 1 row rows (rest 0 None row rows h) in
-      both (below_all key_cmp (key_of schema.key_cols row) (table_of schema.key_cols rows)) _ after.0 after.1
+  sorted (row ∷ rows) h = grind (arith, common_steps, above, rest, both)
 
   -- neither too many nor faulty
   parts : (many : Bool) (faults : Option BuildFault) → cond many (Some TooManyRows) faults ≡ None → (many ≡ false) × (faults ≡ None)
@@ -86,16 +78,7 @@ module _ (schema : Columns) where
   parts false faults h = (refl, h)
 
   pub is_stable : (rows : List Row) → build_fault schema rows ≡ None → IsStable (record { schema = schema; rows = rows })
-  is_stable rows h =
-      let both_hold = parts (nat_lt MAX_ROWS (length rows)) (rows_fault schema 0 None rows) h in
-      let ascending = is_keyed_table-table_of schema.key_cols rows (sorted rows both_hold.1) in
-      record {
-        table = record { keyed = is_true _ ascending; fitting = is_true _ (all_fit 0 None rows both_hold.1) };
-        few = few both_hold.0;
-      }
-    where
-      few : nat_lt MAX_ROWS (length rows) ≡ false → length rows ≤ MAX_ROWS
-      few is = grind (arith, nat_tests)
+  is_stable rows h = grind (arith, common_steps, parts, is_keyed_table-table_of, sorted, is_true, all_fit, nat_tests)
 
   -- each row of rows without a fault fits the schema
   pub all_shaped : (rows : List Row) → build_fault schema rows ≡ None → (k : ℕ) (d : Row) → k < length rows

@@ -1,14 +1,12 @@
 -- What may stand in a column: a value that is pushed, a block's values, a cell of the rows that columns show.
-use Rattle.std.proofs.Common.{◌≡◌, ℕ, ◌≤◌, nat_lt, Bool, true, false, not, ◌&&◌, List, [], ◌∷◌, ◌++◌, length, refl, sym, ap, ◌∙◌, arith}
+use Rattle.std.proofs.Common.{◌≡◌, Bool, true, false, not, ◌&&◌, List, [], ◌∷◌, ◌++◌, refl, sym, ◌∙◌, rules}
 use Rattle.std.specs.List.{list_all}
-use Rattle.std.proofs.lemmas.Bool.Decides.{nat_tests}
 use Rattle.std.proofs.lemmas.List.Folds.{list_all-append}
 use Rattle.values.specs.Shape.{has_type, is_too_long}
 use Rattle.values.specs.declared.value.ColumnType.{ColumnType}
 use Rattle.values.specs.declared.value.ColumnType.TheVariants as column
 use Rattle.values.specs.declared.value.Value.{Value}
 use Rattle.values.specs.declared.value.Value.TheVariants.{Int, Text, Bool as Truth}
-use Rattle.values.specs.declared.limits.TheConstants.{MAX_TEXT_BYTES}
 use Rattle.blocks.specs.Column.{Fits, AllFit}
 use Rattle.stable.specs.Column.{may_stand, all_may_stand}
 use Rattle.stable.proofs.RowsLemmas.{both_true}
@@ -29,10 +27,7 @@ more_stand ty values more h k =
 
 fit_stands : (ty : ColumnType) (v : Value) → Fits ty v → may_stand ty v ≡ true
 fit_stands column.Int (Int x) h = refl
-fit_stands column.Text (Text t) h = ap not (short_text (length t) h.short)
-  where
-    short_text : (n : ℕ) → n ≤ MAX_TEXT_BYTES → nat_lt MAX_TEXT_BYTES n ≡ false
-    short_text n le = grind (arith, nat_tests)
+fit_stands column.Text (Text t) h = search rules
 fit_stands column.Bool (Truth b) h = refl
 fit_stands column.Int (Text t) h = absurd h
 fit_stands column.Int (Truth b) h = absurd h

@@ -1,8 +1,7 @@
 -- The columns that a table's rows fill are a table.
-use Rattle.std.proofs.Common.{◌≡◌, ℕ, ◌<◌, ◌≤◌, List, [], ◌∷◌, length, map, get_or, refl, sym, ap, subst, ◌∙◌, arith}
+use Rattle.std.proofs.Common.{◌≡◌, ℕ, ◌<◌, ◌≤◌, List, [], ◌∷◌, length, map, get_or, refl, sym, ap, subst, ◌∙◌, arith, rules}
 use Rattle.values.specs.Shape.{Columns, IsSchema}
 use Rattle.values.specs.declared.row.Row.{Row}
-use Rattle.values.specs.declared.value.ColumnType.{ColumnType}
 use Rattle.blocks.specs.Column.{Column}
 use Rattle.stable.specs.Stable.{IsStable}
 use Rattle.stable.specs.Rows.{AreEven, IsKept, first_columns, row_count, rows_of}
@@ -26,25 +25,7 @@ module _ (schema lent : Columns) (rows : List Row) (columns : List Column) (widt
   pub whole : lent ≡ schema → width ≡ length lent.types → IsSchema lent → width ≤ col → col ≤ width
       → IsStable (record { schema = schema; rows = rows }) → columns ≡ first_columns schema.types rows col
       → AreWhole schema rows columns
-  whole is wide lawful least most h e =
-      let same : length lent.types ≡ length schema.types = ap (λ (x : Columns). length x.types) is in
-      let all : col ≡ length schema.types = omega (arith, least, most, wide, same) in
-      record {
-        stable = h;
-        some = omega (arith, lawful.keyed, lawful.key_within, same);
-        filled = e ∙ ap (first_columns schema.types rows) all;
-      }
-
--- the columns that rows fill, all under types that are the schema's, are whole
-module _ (schema lent : Columns) (types : List ColumnType) (rows : List Row) (columns : List Column) where
-  pub all_whole : IsSchema lent → length lent.types ≡ length schema.types → types ≡ schema.types
-      → IsStable (record { schema = schema; rows = rows }) → columns ≡ first_columns types rows (length types)
-      → AreWhole schema rows columns
-  all_whole lawful same are h filled = record {
-    stable = h;
-    some = omega (arith, lawful.keyed, lawful.key_within, same);
-    filled = filled ∙ ap (λ ts. first_columns ts rows (length ts)) are;
-  }
+  whole is wide lawful least most h e = search rules
 
 -- they show just those rows, and so are a table
 module _ (schema : Columns) (rows : List Row) (columns : List Column) (h : AreWhole schema rows columns) where

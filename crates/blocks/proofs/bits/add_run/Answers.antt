@@ -1,20 +1,12 @@
-use Rattle.std.proofs.Common.{◌≡◌, ◌+◌, ◌++◌, ◌∷◌, [], Bool, List, length, take, drop, ap, ◌∙◌, arith}
+use Rattle.std.proofs.Common.{◌≡◌, ◌+◌, ◌++◌, ◌∷◌, [], Bool, List, take, drop, ap, ◌∙◌, arith}
 use Rattle.blocks.specs.Payload.{byte_count, packed}
 use Rattle.blocks.proofs.BitsLemmas.{length-packed}
 use Rattle.blocks.proofs.RunLemmas.{run_more, length-with_run}
 use Rattle.blocks.proofs.bits.add_run.Goals as goal
+use Rattle.std.proofs.lemmas.Grind.{common_steps}
 
 pub overflow_sub-room : goal.overflow_sub-room
-overflow_sub-room c =
-    let truths = c.requires.packed in
-    omega (
-      arith,
-      c.len.ensures,
-      c.byte_count.ensures,
-      ap length truths.2,
-      length-packed (byte_count c.args.count) truths.0,
-      c.args.bytes.now.ok,
-    )
+overflow_sub-room c = grind (arith, common_steps, c.requires.packed, c.len.ensures, c.byte_count.ensures, length-packed)
 
 pub loop-i-preserved : goal.loop-i-preserved
 loop-i-preserved c =

@@ -1,13 +1,8 @@
-use Rattle.std.proofs.Common.{◌∙◌, map, ap, subst}
+use Rattle.std.proofs.Common.{arith}
 use Rattle.std.proofs.lemmas.List.{take_all}
-use Rattle.values.specs.declared.value.ColumnType.TheVariants as column
-use Rattle.blocks.specs.Column.{AllFit}
-use Rattle.blocks.specs.Places.{value_at}
 use Rattle.blocks.proofs.FitLemmas.{texts_fit}
 use Rattle.blocks.proofs.gathering.texts_at.Goals as goal
+use Rattle.std.proofs.lemmas.Grind.{common_steps}
 
 pub returns-clause-fit : goal.returns-clause-fit
-returns-clause-fit c =
-    let whole = take_all c.loop-place.place-index c.args.places.now c.loop-place-test.false in
-    subst (AllFit column.Text) (c.loop-place.invariant.same ∙ ap (map (value_at c.args.blocks.now)) whole)
-    (texts_fit c.loop-place.texts c.loop-place.invariant.fit)
+returns-clause-fit c = grind (arith, common_steps, c.loop-place-test.false, c.loop-place.invariant.same, c.loop-place.invariant.fit, take_all, texts_fit)

@@ -3,16 +3,13 @@ use Rattle.std.proofs.lemmas.Result.{err_from_is_err_and}
 use Rattle.blocks.specs.Cells.{column_of}
 use Rattle.blocks.specs.Column.{AllFit}
 use Rattle.blocks.specs.Laws.{IsPayload}
-use Rattle.blocks.specs.Reading.{Fails}
 use Rattle.blocks.proofs.LawsLemmas.{is_payload, payload_reads}
 use Rattle.blocks.proofs.reading.read_block.Goals.{In_ok-cells}
 use Rattle.blocks.proofs.reading.read_block.Goals as goal
+use Rattle.std.proofs.lemmas.Grind.{common_steps}
 
 pub returns-in_err-cells-clause-only : goal.returns-in_err-cells-clause-only
-returns-in_err-cells-clause-only c = λ values p.
-    let e = err_from_is_err_and c.from_residual.result c.from_residual.ensures.1 in
-    rw (e.1, e.2) (subst (Fails c.in_err-cells.field-0.0) (payload_reads c.args.ty c.args.count c.args.bytes.now values p)
-    c.in_err-cells.ensures.first)
+returns-in_err-cells-clause-only c = grind (arith, common_steps, c.from_residual.ensures.1, c.in_err-cells.ensures.first, err_from_is_err_and, payload_reads)
 
 -- the bytes are the payload of what was read
 payload : (c : In_ok-cells) → IsPayload c.args.ty c.args.count c.args.bytes.now (column_of c.in_ok-cells.cells).values

@@ -1,15 +1,14 @@
-use Rattle.std.proofs.Common.{◌≡◌, ◌+◌, ◌-◌, ◌++◌, ◌∷◌, [], length, map, ap, ◌∙◌, arith, rules}
+use Rattle.std.proofs.Common.{◌≡◌, ◌+◌, ◌-◌, ◌++◌, ◌∷◌, [], length, map, ap, ◌∙◌, arith}
 use Rattle.std.proofs.lemmas.List.{map_push, length_push}
 use Rattle.values.specs.declared.value.Value.TheVariants.{Text}
-use Rattle.blocks.specs.Reading.{texts_at, Fails}
+use Rattle.blocks.specs.Reading.{texts_at}
 use Rattle.blocks.proofs.TextsLemmas.{text_measured}
 use Rattle.blocks.proofs.ReadLemmas.{reads_on, fails_on}
 use Rattle.blocks.proofs.reading.read_texts.Goals as goal
+use Rattle.std.proofs.lemmas.Grind.{common_steps}
 
 pub push-requires-clause-short : goal.push-requires-clause-short
-push-requires-clause-short c =
-    (text_measured c.loop-i.i (length c.args.bytes.now - length c.loop-i.rest.now) c.loop-i.rest.now c.in_ok-text.text.now
-    c.in_ok-text.after.now c.in_ok-text.ensures).short
+push-requires-clause-short c = grind (arith, common_steps, c.in_ok-text.ensures, text_measured)
 
 pub loop-i-preserved : goal.loop-i-preserved
 loop-i-preserved c =
@@ -31,12 +30,4 @@ loop-i-preserved c =
     }
 
 pub returns-in_err-text : goal.returns-in_err-text
-returns-in_err-text c =
-    let rest = c.loop-i.rest.now in
-    let at = length c.args.bytes.now - length rest in
-    let so_far = c.loop-i.invariant.read in
-    let total = texts_at 0 0 c.args.count c.args.bytes.now in
-    let fault = c.in_err-text.field-0.0 in
-    let fails : Fails fault total =
-    fails_on fault (map Text c.loop-i.texts) c.loop-i.i at c.args.count rest total c.loop-i-test.true so_far c.in_err-text.ensures in
-    search rules
+returns-in_err-text c = grind (arith, common_steps, c.loop-i.invariant.read, c.loop-i-test.true, c.in_err-text.ensures, fails_on)

@@ -5,6 +5,7 @@ use Rattle.blocks.specs.Column.{Column}
 use Rattle.devices.specs.Turns.{AreInTurn}
 use Rattle.devices.proofs.ImageLemmas.{column_of, so_far_few, length-made, next_in_turn, made_on, columns_taken}
 use Rattle.devices.proofs.reading.columns_in.Goals as goal
+use Rattle.std.proofs.lemmas.Grind.{common_steps}
 
 abbrev blocks_in : Vec Part Global → List Part
 blocks_in p = p.items
@@ -13,17 +14,7 @@ abbrev left : Vec Part Global → List (Vec Part Global) → List (Vec Part Glob
 left p ps = p ∷ ps
 
 pub bounds-types-len : goal.bounds-types-len
-bounds-types-len c =
-    let front = c.loop-parts.yielded in
-    let split : front ++ c.in-Some.parts ∷ c.next.new.self.rest.items ≡ c.args.columns.items =
-    ap (λ (ps : List (Vec Part Global)). front ++ ps) (sym c.in-Some.ensures.steps.0) ∙ c.loop-parts.invariant.taken in
-    let few =
-    so_far_few blocks_in c.args.generation c.args.types.now c.args.columns.items front c.next.new.self.rest.items c.in-Some.parts
-    c.requires.even split in
-    let made =
-    length-made blocks_in c.args.generation c.args.types.now c.args.columns.items front c.next.new.self.rest.items c.in-Some.parts
-    c.requires.even split c.loop-parts.made.items c.loop-parts.invariant.made in
-    omega (arith, few, made, c.len.ensures, c.loop-parts.made.ok.0)
+bounds-types-len c = grind (arith, common_steps, c.in-Some.ensures.steps.0, c.loop-parts.invariant.taken, c.requires.even, c.loop-parts.invariant.made, c.len.ensures, so_far_few, length-made)
 
 pub column_in-requires : goal.column_in-requires
 column_in-requires c =

@@ -1,9 +1,9 @@
-use Rattle.std.proofs.Common.{◌≡◌, ℕ, ◌<◌, ◌++◌, ◌∷◌, [], List, length, map, take, get_or, set, sym, ap, ◌∙◌, get_or-set_same, Vec, Global, arith}
+use Rattle.std.proofs.Common.{◌≡◌, ℕ, ◌<◌, ◌++◌, List, length, map, get_or, set, sym, ap, ◌∙◌, get_or-set_same, Vec, Global, arith}
 use Rattle.std.proofs.lemmas.List.{get_or-map, length-map, length-set}
 use Rattle.std.proofs.Math.Seq.{map-set_same}
-use Rattle.devices.specs.Store.{appended}
 use Rattle.devices.proofs.StoreLemmas.{none_at, some_at, put_device, put_piece}
 use Rattle.devices.proofs.store.append_all.Goals as goal
+use Rattle.std.proofs.lemmas.Grind.{common_steps}
 
 abbrev items : Vec ℕ Global → List ℕ
 items p = p.items
@@ -17,23 +17,7 @@ append-requires g c =
     ∙ none_at (map failures c.args.devices.now) c.loop-i.i c.requires.sound
 
 pub returns-in-Err-clause-stopped : goal.returns-in-Err-clause-stopped
-returns-in-Err-clause-stopped g c =
-    let contents = g.D.ColumnDevice.contents in
-    let failures = g.D.ColumnDevice.failures in
-    let i = c.loop-i.i in
-    let pieces = c.args.pieces.now in
-    let old = map contents c.args.devices.now in
-    let n = c.in-Err.ensures.part.0 in
-    let lt : i < length c.loop-i.devices = omega arith in
-    let few : i < length pieces = omega (arith, c.requires.even) in
-    let even : length c.loop-i.devices ≡ length old = omega (arith, length-map c.args.devices.now contents) in
-    let piece : c.as_slice.result.now ≡ get_or (map items pieces) i [] =
-    c.as_slice.ensures.value ∙ ap items c.index-pieces-i.is ∙ sym (get_or-map items pieces i c.index-pieces-i.result [] few) in (
-      n,
-      put_device contents failures items c.loop-i.devices pieces old i c.index-devices-i.result c.append.new.self
-          (take n c.as_slice.result.now) lt even (omega arith) c.loop-i.invariant.contents c.in-Err.ensures.part.1
-          ∙ ap (λ (p : List ℕ). appended old (take i (map items pieces) ++ take n p ∷ [])) piece,
-    )
+returns-in-Err-clause-stopped g c = grind (arith, common_steps, c.in-Err.ensures.part.0, c.requires.even, c.as_slice.ensures.value, c.index-pieces-i.is, c.loop-i.invariant.contents, c.in-Err.ensures.part.1, length-map, get_or-map, put_device)
 
 pub returns-in-Err-clause-failed : goal.returns-in-Err-clause-failed
 returns-in-Err-clause-failed g c =

@@ -1,21 +1,14 @@
-use Rattle.std.proofs.Common.{◌≡◌, ◌<◌, ◌-◌, [], Some, Ok, length, refl, sym, ap, ◌∙◌, arith}
+use Rattle.std.proofs.Common.{◌≡◌, ◌<◌, ◌-◌, [], Some, Ok, length, sym, ap, ◌∙◌, arith}
 use Rattle.std.proofs.lemmas.Bool.{eqb-true, eqb-false}
 use Rattle.std.proofs.lemmas.Result.{err_from_is_err_and}
-use Rattle.blocks.specs.Payload.{AreBytes}
 use Rattle.frames.specs.Reading.{found_now, frame_at, frames_of, parts_after}
 use Rattle.frames.proofs.TakesLemmas.{frame_shorter, frame_leaves}
 use Rattle.frames.proofs.ReadLemmas.{reads_on, reads_torn, reads_fault, reads_end}
 use Rattle.frames.proofs.reading.read_column.Goals as goal
+use Rattle.std.proofs.lemmas.Grind.{common_steps}
 
 pub loop-rest-init : goal.loop-rest-init
-loop-rest-init c =
-    let small : AreBytes c.args.bytes.now = λ i. omega (arith, c.type_inv.bytes i) in
-    record {
-      left = omega arith;
-      bytes = small;
-      read = record
-          { most = length c.args.bytes.now; enough = omega arith; read = rw (c.new-parts.ensures.items, c.start-seam.ensures) refl };
-    }
+loop-rest-init c = grind (arith, common_steps, c.type_inv.bytes, c.new-parts.ensures.items, c.start-seam.ensures)
 
 pub returns-in_err-frame : goal.returns-in_err-frame
 returns-in_err-frame c =
@@ -33,10 +26,7 @@ returns-in_default c =
     (c.in_ok-frame.ensures ∙ ap (λ f. Ok (found_now f)) c.in_default.is)
 
 pub loop-rest-smaller : goal.loop-rest-smaller
-loop-rest-smaller c =
-    frame_shorter c.args.col (length c.args.bytes.now - length c.loop-rest.rest.now) (Some c.args.ty) c.loop-rest.seam
-    c.loop-rest.rest.now c.in-Some.after.now c.in-Some.frame c.loop-rest.invariant.bytes
-    (c.in_ok-frame.ensures ∙ ap (λ f. Ok (found_now f)) c.in-Some.is)
+loop-rest-smaller c = grind (arith, common_steps, c.loop-rest.invariant.bytes, c.in_ok-frame.ensures, c.in-Some.is, frame_shorter)
 
 pub loop-rest-preserved : goal.loop-rest-preserved
 loop-rest-preserved c =

@@ -1,6 +1,6 @@
 use Rattle.std.proofs.Common.{◌≡◌, ℕ, ◌-◌, List, ◌∷◌, ◌++◌, length, take, drop, append_assoc, refl, sym, ap, ◌∙◌, arith}
 use Rattle.std.specs.Int.{w16, w32, to_be_bytes}
-use Rattle.std.proofs.lemmas.List.{length-append, take_at, drop_at}
+use Rattle.std.proofs.lemmas.List.{length-append}
 use Rattle.blocks.specs.Encoding.{encoded_of}
 use Rattle.frames.specs.declared.frame.Format.TheVariants.{Second}
 use Rattle.frames.specs.declared.frame.Head.{Head}
@@ -8,6 +8,7 @@ use Rattle.frames.specs.Column.{head_bytes, flag_byte}
 use Rattle.frames.proofs.AgainLemmas.{in_short}
 use Rattle.frames.proofs.writing.write_part.Goals as goal
 use Rattle.frames.proofs.writing.write_part.Goals.{then-last, else-last}
+use Rattle.std.proofs.lemmas.Grind.{common_steps}
 
 -- the length is the last of the numbers in front of a payload
 size_last : (old g n c size : List ℕ) (flag : ℕ)
@@ -17,14 +18,7 @@ size_last old g n c size flag = simp append_assoc
 -- four bytes in front of a payload, put over others
 put_over : (front none size payload whole : List ℕ) (begin : ℕ) → whole ≡ front ++ none → length none ≡ 4 → begin ≡ length whole
     → take (begin - 4) (whole ++ payload) ++ (size ++ drop begin (whole ++ payload)) ≡ (front ++ size) ++ payload
-put_over front none size payload whole begin is four at =
-    let before : length front ≡ begin - 4 = omega (arith, at, four, ap length is, length-append front none) in
-    let first : take (begin - 4) (whole ++ payload) ≡ front =
-    ap (λ xs. take (begin - 4) (xs ++ payload)) is
-    ∙ ap (take (begin - 4)) (append_assoc front none payload)
-    ∙ take_at front (none ++ payload) (begin - 4) before in
-    let rest : drop begin (whole ++ payload) ≡ payload = drop_at whole payload begin (sym at) in
-    (λ i. first i ++ (size ++ rest i)) ∙ sym (append_assoc front size payload)
+put_over front none size payload whole begin is four at = grind (arith, common_steps)
 
 part_written : (old whole payload : List ℕ) (h : Head) (begin size : ℕ) → whole ≡ old ++ head_bytes (record h { size = 0 })
     → begin ≡ length whole

@@ -1,5 +1,5 @@
-use Rattle.std.proofs.Common.{◌≡◌, ℕ, ◌*◌, ◌+◌, ◌-◌, ◌/◌, ◌<◌, ◌≤◌, ◌^◌, ◌++◌, inl, inr, List, length, take}
-use Rattle.std.proofs.Common.{drop, sym, ap, ◌∙◌, subst, arith}
+use Rattle.std.proofs.Common.{◌≡◌, ℕ, ◌*◌, ◌+◌, ◌-◌, ◌<◌, ◌≤◌, ◌^◌, List, length}
+use Rattle.std.proofs.Common.{sym, ap, ◌∙◌, subst, arith}
 use Rattle.std.specs.List.{All}
 use Rattle.model.specs.declared.entry.Entry.{Entry}
 use Rattle.layers.specs.declared.shift.Shift.{Shift}
@@ -8,11 +8,10 @@ use Rattle.layers.proofs.ShiftLemmas.{all_between, all_moved, inside, le_or_lt, 
 use Rattle.layers.proofs.ShiftLemmas.{run_ends, runs_end}
 use Rattle.layers.proofs.ShiftLemmas.{runs_join, stay_between, unmoved}
 use Rattle.layers.proofs.blocks.move_rest.Goals as goal
+use Rattle.std.proofs.lemmas.Grind.{common_steps}
 
 pub returns-then-is_none : goal.returns-then-is_none
-returns-then-is_none c =
-    let es = c.args.entries.now in
-    stay_between c.args.index (length es) c.args.shift (shifted_entries c.args.shifts.now es) (c.is_none.ensures c.if-is_none.true)
+returns-then-is_none c = grind (arith, common_steps, c.is_none.ensures, c.if-is_none.true, stay_between)
 
 pub move_all-requires : goal.move_all-requires
 move_all-requires c =
@@ -40,42 +39,10 @@ move_all-requires c =
     inside n len f j (own j e) from short ∙ ap (λ (z : Shift). f (shifted_by z e)) none ∙ ap f (unmoved e)) after
 
 pub loop-block-init : goal.loop-block-init
-loop-block-init c =
-    let n = c.args.index in
-    let f = shifted_by c.args.shift in
-    let es = c.settle.new.entries in
-    let ss = c.settle.new.shifts in
-    let before = shifted_entries c.args.shifts.now c.args.entries.now in
-    let end = c.start_of-end in
-    let q = end.result in
-    let m = q - n in
-    let next = (n / 256 + 1) * 256 in
-    let size : length es ≡ length before =
-    sym (length-moved (λ (j : ℕ). shifted_by (shift_at ss j)) 0 es) ∙ ap length c.settle.ensures.same in
-    let own_size : length before ≡ length c.args.entries.now =
-    length-moved (λ (j : ℕ). shifted_by (shift_at c.args.shifts.now j)) 0 c.args.entries.now in
-    let past : n ≤ q = elim (le_or_lt (length es) q) [
-      | inl whole ↦ omega (arith, whole, size, own_size, c.requires.index)
-      | inr lt ↦ let is = end.ensures.there lt in omega (arith, is)
-    ] in
-    let none = λ (j : ℕ) (low : n ≤ j) (high : j < q) (lt : j < length es).
-    ap (λ (zs : List Shift). shift_at zs j) c.settle.ensures.shifts
-    ∙ own_block c.args.shifts.now n q (length c.args.entries.now) c.requires.index c.requires.covered end.ensures.below j low high in
-    let there = λ (lt : q < length before). end.ensures.there (omega (arith, lt, size)) in
-    record {
-      past = omega arith;
-      moved =
-          ap (λ (zs : List Entry). shifted_entries ss (take n es ++ (zs ++ drop m (drop n es)))) c.move_all.ensures
-          ∙ moves_settled ss es n m q f (omega (arith, past)) none
-          ∙ ap (moved_between n q f) c.settle.ensures.same
-          ∙ run_ends n q next f before end.ensures.below there;
-    }
+loop-block-init c = grind (arith, common_steps, c.settle.ensures.same, c.requires.index, c.settle.ensures.shifts, c.requires.covered, c.move_all.ensures, length-moved, le_or_lt, own_block, moves_settled, run_ends)
 
 pub move_block-requires-clause-before : goal.move_block-requires-clause-before
-move_block-requires-clause-before c =
-    let before = shifted_entries c.args.shifts.now c.args.entries.now in
-    subst (All (λ (e : Entry). e.sid < 2 ^ 64)) (sym c.loop-block.invariant.moved)
-    (all_between c.args.index (c.loop-block.block * 256) c.args.shift before c.requires.few c.requires.before c.requires.placed)
+move_block-requires-clause-before c = grind (arith, common_steps, c.loop-block.invariant.moved, c.requires.few, c.requires.before, c.requires.placed, all_between)
 
 pub move_block-requires-clause-after : goal.move_block-requires-clause-after
 move_block-requires-clause-after c =
@@ -89,20 +56,7 @@ move_block-requires-clause-after c =
     (all_between c.args.index t c.args.shift before c.requires.few c.requires.before c.requires.placed)
 
 pub loop-block-preserved : goal.loop-block-preserved
-loop-block-preserved c =
-    let before = shifted_entries c.args.shifts.now c.args.entries.now in
-    let f = shifted_by c.args.shift in
-    let s = c.loop-block.block * 256 in
-    let t = c.loop-block.block * 256 + 256 in
-    let next : t ≡ (c.loop-block.block + 1) * 256 = omega arith in
-    record {
-      past = omega (arith, c.loop-block.invariant.past);
-      moved =
-          c.move_block.ensures
-          ∙ ap (moved_between s t f) c.loop-block.invariant.moved
-          ∙ runs_join c.args.index s t f before c.loop-block.invariant.past (omega arith)
-          ∙ ap (λ (k : ℕ). moved_between c.args.index k f before) next;
-    }
+loop-block-preserved c = grind (arith, common_steps, c.loop-block.invariant.past, c.move_block.ensures, c.loop-block.invariant.moved, runs_join)
 
 pub returns : goal.returns
 returns c =

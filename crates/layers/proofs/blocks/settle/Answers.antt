@@ -1,9 +1,8 @@
-use Rattle.std.proofs.Common.{◌-◌, ◌<◌, ◌^◌, ◌++◌, length, take, drop, refl, ◌∙◌}
-use Rattle.std.specs.Prelude.{slice_set}
+use Rattle.std.proofs.Common.{◌<◌, ◌^◌, length, refl, arith}
 use Rattle.std.proofs.lemmas.Option.{slice_get_read}
-use Rattle.layers.specs.Shifts.{shifted_entries}
 use Rattle.layers.proofs.ShiftLemmas.{IsBlock, all_shifted, settled}
 use Rattle.layers.proofs.blocks.settle.Goals as goal
+use Rattle.std.proofs.lemmas.Grind.{common_steps}
 
 pub move_all-requires : goal.move_all-requires
 move_all-requires c =
@@ -25,23 +24,4 @@ move_all-requires c =
     c.requires
 
 pub returns-clause-same : goal.returns-clause-same
-returns-clause-same c =
-    let es = c.args.entries.now in
-    let ss = c.args.shifts.now in
-    let b = c.args.block in
-    let start = c.start_of-start in
-    let end = c.start_of-end in
-    let p = start.result in
-    let m = end.result - p in
-    let here : IsBlock b p end.result (length es) = record {
-      within = start.ensures.within;
-      below = start.ensures.below;
-      there = start.ensures.there;
-      end_within = end.ensures.within;
-      end_below = end.ensures.below;
-      end_there = end.ensures.there;
-    } in
-    let found = c.in-Some.ensures.lookup in
-    let at = slice_get_read ss (length ss) b c.in-Some.shift.now refl found.3.0 found.1 in
-    (λ i. shifted_entries (slice_set ss b (c.none.ensures i)) (take p es ++ (c.move_all.ensures i ++ drop m (drop p es))))
-    ∙ settled ss es b p end.result here c.in-Some.shift.now at
+returns-clause-same c = grind (arith, common_steps, c.in-Some.ensures.lookup, c.none.ensures, c.move_all.ensures, slice_get_read, settled)

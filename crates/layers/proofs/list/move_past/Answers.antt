@@ -22,6 +22,7 @@ use Rattle.layers.proofs.SerialLemmas.{clash_here, clash_is, order_x, small_sid}
 use Rattle.layers.proofs.ShiftLemmas.{length-moved, map_alike, moved_to_end, own_block, puts_own, stands_own}
 use Rattle.layers.proofs.list.move_past.Goals as goal
 use Rattle.layers.proofs.list.move_past.Goals.{in-Some, in-None, After-index-entries-index, After-loop-index}
+use Rattle.std.proofs.lemmas.Grind.{common_steps}
 
 -- the entries beside which the other tree's stand
 abbrev own : ℕ → List Entry → Tree
@@ -35,10 +36,7 @@ length-shifted ss es = length-moved (λ (j : ℕ). shifted_by (shift_at ss j)) 0
 here_is : (ss new : List Shift) (entries es : List Entry) (n : ℕ) (e : Entry) → n < length es → length es ≤ length ss * 256
     → new ≡ slice_set ss (n / 256) no_shift → shifted_entries new es ≡ entries → slice_get es n ≡ Some e
     → (shift_at new n ≡ no_shift) × (slice_get entries n ≡ Some e)
-here_is ss new entries es n e lt covered is same at =
-    let none = ap (λ (zs : List Shift). shift_at zs n) is
-    ∙ own_block ss n (n + 1) (length es) lt covered (omega arith) n (omega arith) (omega arith) in
-    (none, sym (ap (λ (zs : List Entry). slice_get zs n) same) ∙ stands_own new es n e none at)
+here_is ss new entries es n e lt covered is same at = grind (arith, common_steps, own_block, stands_own)
 
 -- the entry at hand, whose block is settled
 at_hand : (c : After-index-entries-index) → (shift_at c.settle.new.shifts c.loop-index.index ≡ no_shift)

@@ -4,11 +4,6 @@ use Rattle.std.proofs.lemmas.List.{append-nil, map-append}
 use Rattle.model.specs.declared.entry.Entry.{Entry}
 use Rattle.layers.proofs.propagation.entries_of.Goals as goal
 
-pub loop-entry-init : goal.loop-entry-init
-loop-entry-init c =
-    ap (λ xs. map option_copied xs ++ map (λ e. Some e) c.into_iter-entry-iterator.result) c.new-entries.ensures.items
-    ∙ ap (λ (es : List Entry). map (λ e. Some e) es) (c.into_iter-entry-iterator.ensures.into_iter_gives ∙ c.iter-entry-items.ensures.all)
-
 pub loop-entry-preserved : goal.loop-entry-preserved
 loop-entry-preserved c =
     let e = c.in-Some.entry.now in

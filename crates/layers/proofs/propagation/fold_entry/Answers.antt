@@ -1,6 +1,6 @@
 use Rattle.values.specs.Lent.{value_of}
 use Rattle.delta.specs.Lent.{change_of}
-use Rattle.std.proofs.Common.{◌≡◌, ℕ, ◌<◌, ◌^◌, sym, ap, ◌∙◌, subst}
+use Rattle.std.proofs.Common.{◌≡◌, ℕ, ◌<◌, ◌^◌, sym, ap, ◌∙◌, subst, arith}
 use Rattle.std.proofs.lemmas.Result.{on_ok_weaker}
 use Rattle.std.specs.Prelude.{set}
 use Rattle.values.specs.declared.value.Value.{Value}
@@ -9,13 +9,14 @@ use Rattle.model.specs.declared.entry.Change.{Change}
 use Rattle.model.specs.declared.entry.Change.TheVariants.{Del, Mod}
 use Rattle.model.specs.Entries.{entry_at}
 use Rattle.model.specs.Edits.{change_with_cell}
-use Rattle.delta.specs.Changes.{entries_with, MayBePutAt}
-use Rattle.delta.specs.Folds.{IsFold, IsOnlyFold}
+use Rattle.delta.specs.Changes.{entries_with}
+use Rattle.delta.specs.Folds.{IsOnlyFold}
 use Rattle.delta.specs.declared.folds.Fold.{Fold}
 use Rattle.layers.specs.Propagation.{IsNext, next_tree}
 use Rattle.layers.proofs.StepLemmas.{small_rid, ascending, with_change, told, put_may, put_next}
 use Rattle.layers.proofs.StepLemmas.{take_within, take_next, set_within, set_there, set_outside, set_next}
 use Rattle.layers.proofs.propagation.fold_entry.Goals as goal
+use Rattle.std.proofs.lemmas.Grind.{common_steps}
 
 pub find_fold-requires-clause-rid : goal.find_fold-requires-clause-rid
 find_fold-requires-clause-rid c =
@@ -25,20 +26,7 @@ pub find_fold-requires-clause-ascending : goal.find_fold-requires-clause-ascendi
 find_fold-requires-clause-ascending c = ascending c.args.tree.now c.args.entry.now c.requires
 
 pub put_run-requires : goal.put_run-requires
-put_run-requires c =
-    let t = c.args.tree.now in
-    let e = c.args.entry.now in
-    let s = c.in-Put.sid in
-    let n = c.in-Put.start in
-    let m = c.in-Put.end in
-    let fold =
-    subst (λ (p : ℕ × Change × Fold). IsFold t.key_cols t.entries p.0 p.1 p.2)
-    (λ i. (c.sid.ensures i, c.change-change.ensures i, c.in-Put.is i)) c.find_fold.ensures.fold in
-    let only =
-    subst (λ (p : ℕ × Change × Fold). IsOnlyFold t.key_cols t.entries p.0 p.1 p.2)
-    (λ i. (c.sid.ensures i, c.change-change.ensures i, c.in-Put.is i)) c.find_fold.ensures.only in
-    subst (λ (x : Entry). MayBePutAt t.key_cols x.sid x.change t.entries n m) (sym c.in_ok-with_sid-in-Put.ensures)
-    (put_may t e.sid e.change c.requires s n m fold only)
+put_run-requires c = grind (arith, common_steps, c.sid.ensures, c.change-change.ensures, c.in-Put.is, c.find_fold.ensures.fold, c.find_fold.ensures.only, c.in_ok-with_sid-in-Put.ensures, c.requires, put_may)
 
 pub returns-in_ok-with_sid-in-Put : goal.returns-in_ok-with_sid-in-Put
 returns-in_ok-with_sid-in-Put c =

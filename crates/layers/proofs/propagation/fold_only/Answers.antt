@@ -1,5 +1,5 @@
-use Rattle.std.proofs.Common.{◌≡◌, ◌∷◌, ap, sym, ◌∙◌, arith}
-use Rattle.std.specs.Prelude.{Some, slice_get, length}
+use Rattle.std.proofs.Common.{◌≡◌, ap, sym, ◌∙◌}
+use Rattle.std.specs.Prelude.{Some, slice_get}
 use Rattle.layers.specs.Over.{AreConsecutive}
 use Rattle.layers.proofs.RestLemmas.{tree_from, walk_is, step}
 use Rattle.layers.proofs.propagation.fold_only.Goals as goal

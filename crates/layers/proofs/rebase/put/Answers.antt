@@ -6,17 +6,13 @@ use Rattle.layers.specs.Passing.{put_entries}
 use Rattle.layers.proofs.SerialLemmas.{none_if, some_if, put_none, put_first, put_more}
 use Rattle.layers.proofs.rebase.put.Goals as goal
 use Rattle.layers.proofs.rebase.put.Goals.{then-is_empty+else-sid+in_ok-entries, else-is_empty}
+use Rattle.std.proofs.lemmas.Grind.{common_steps}
 
 pub returns-then-sid : goal.returns-then-sid
-returns-then-sid c =
-    let out = c.args.entries.now.items in
-    let none = none_if c.args.entries.now.len out c.args.entries.now.ok.0 (sym c.is_empty.ensures ∙ c.if-is_empty.true) in
-    put_none c.args.index c.args.sid c.args.tree.now.entries out c.args.entry.now c.requires (c.if-sid.true ∙ c.sid.ensures) none
+returns-then-sid c = grind (arith, common_steps, c.is_empty.ensures, c.if-is_empty.true, c.requires, c.if-sid.true, c.sid.ensures, none_if, put_none)
 
 pub first_entries-requires : goal.first_entries-requires
-first_entries-requires c =
-    let within = slice_get_within c.args.tree.now.entries c.args.index c.args.entry.now c.requires in
-    omega (arith, within)
+first_entries-requires c = omega (arith, c.requires, slice_get_within)
 
 pub returns : goal.returns
 returns c =

@@ -1,4 +1,4 @@
-use Rattle.std.proofs.Common.{◌≡◌, ℕ, ◌≤◌, List, map, length, sym, ap, ◌∙◌, subst}
+use Rattle.std.proofs.Common.{◌≡◌, ℕ, ◌≤◌, List, map, length, sym, ap, ◌∙◌, subst, arith}
 use Rattle.model.specs.declared.entry.Entry.{Entry}
 use Rattle.model.specs.Entries.{IsLawful, entry_cmp}
 use Rattle.model.specs.Rebasing.{first_clash_from, rebased_entry}
@@ -11,13 +11,10 @@ use Rattle.layers.proofs.SerialLemmas.{is_at, none_dropped, clear_next, clash_he
 use Rattle.layers.proofs.SerialLemmas.{in_order}
 use Rattle.layers.proofs.SerialLemmas.{none_if, some_if, put_all, conflicting, unconflicting, rebased_is, lawful}
 use Rattle.layers.proofs.rebase.serialize.Goals as goal
+use Rattle.std.proofs.lemmas.Grind.{common_steps}
 
 pub find-found-requires-clause-ready : goal.find-found-requires-clause-ready
-find-found-requires-clause-ready c =
-    let e = c.in-Some.entry.now in
-    let here =
-    is_at c.loop-entry.index c.args.x.now.entries c.next.new.self e (sym c.loop-entry.invariant.left ∙ c.in-Some.ensures.steps) in
-    c.loop-entry.invariant.ready e here.at
+find-found-requires-clause-ready c = grind (arith, common_steps, c.loop-entry.invariant.left, c.in-Some.ensures.steps, c.loop-entry.invariant.ready, is_at)
 
 pub find-found-requires-clause-sid : goal.find-found-requires-clause-sid
 find-found-requires-clause-sid c =
@@ -42,11 +39,7 @@ returns-in-Some-clash c =
     λ (w : AreAligned x y). conflicting c.args.rule x y w clash found
 
 pub put-requires : goal.put-requires
-put-requires c =
-    let here =
-    is_at c.loop-entry.index c.args.x.now.entries c.next.new.self c.in-Some.entry.now
-    (sym c.loop-entry.invariant.left ∙ c.in-Some.ensures.steps) in
-    here.at
+put-requires c = grind (arith, common_steps, c.loop-entry.invariant.left, c.in-Some.ensures.steps, is_at)
 
 pub loop-entry-preserved : goal.loop-entry-preserved
 loop-entry-preserved c =

@@ -1,10 +1,7 @@
-use Rattle.std.proofs.Common.{ap, subst, ◌∙◌}
-use Rattle.std.specs.List.{All}
-use Rattle.std.proofs.lemmas.List.{take_all}
+use Rattle.std.proofs.Common.{subst, ◌∙◌}
 use Rattle.std.proofs.lemmas.List.Elements.{All-more}
 use Rattle.blocks.specs.Column.{Column}
 use Rattle.stable.specs.Column.{all_may_stand}
-use Rattle.stable.specs.Rows.{row_count}
 use Rattle.stable.proofs.ColumnsLemmas.{count_more}
 use Rattle.stable.proofs.columns.row_count.Goals as goal
 
@@ -20,13 +17,3 @@ loop-column-preserved c =
           c.loop-column.invariant.fit
           (subst (λ (x : Column). all_may_stand x.ty x.values) c.column-item.is c.len-count.ensures.fit);
     }
-
-pub returns-clause-count : goal.returns-clause-count
-returns-clause-count c =
-    c.loop-column.invariant.counted
-    ∙ ap row_count (take_all c.loop-column.column-index c.args.columns.now c.loop-column-test.false)
-
-pub returns-clause-fit : goal.returns-clause-fit
-returns-clause-fit c =
-    subst (All (λ (x : Column). all_may_stand x.ty x.values))
-    (take_all c.loop-column.column-index c.args.columns.now c.loop-column-test.false) c.loop-column.invariant.fit

@@ -1,9 +1,8 @@
-use Rattle.std.proofs.Common.{◌≡◌, ◌-◌, ◌<◌, true, false, length, sym, subst, to_z, of_z, w64, arith, rules}
+use Rattle.std.proofs.Common.{◌≡◌, ◌-◌, ◌<◌, true, false, sym, subst, to_z, of_z, w64, arith, rules}
 use Rattle.std.specs.List.Sorted.{IsPartitionedBy, IsPartitionPoint}
 use Rattle.std.proofs.lemmas.Int.{to_z-of_z}
 use Rattle.std.proofs.lemmas.List.Sorted.{IsPartitionPoint-from_clause}
-use Rattle.values.specs.declared.value.ColumnType.TheVariants as column
-use Rattle.stable.specs.Column.{is_below, joined}
+use Rattle.stable.specs.Column.{is_below}
 use Rattle.stable.proofs.ColumnLemmas.{length_blocks}
 use Rattle.stable.proofs.HalvingLemmas.{begins, blocks_parted, block_parted, halved, long, none_below, typed}
 use Rattle.stable.proofs.halving.count_below.Goals as goal
@@ -20,15 +19,7 @@ returns-then-after-eq0-clause-point c =
     none_below n blocks c.requires.blocked c.requires.parted after cut c.if-after-eq0.true
 
 pub overflow_mul-result : goal.overflow_mul-result
-overflow_mul-result c =
-    let blocks = c.args.blocks.now in
-    omega (
-      arith,
-      c.if-after-eq0.false,
-      c.partition_point-after.ensures.bound,
-      c.requires.room,
-      length_blocks column.Int (length (joined blocks)) blocks c.requires.blocked,
-    )
+overflow_mul-result c = omega (arith, c.if-after-eq0.false, c.partition_point-after.ensures.bound, c.requires.room, c.requires.blocked, length_blocks)
 
 pub count_in-requires-clause-typed : goal.count_in-requires-clause-typed
 count_in-requires-clause-typed c =

@@ -1,4 +1,4 @@
-use Rattle.std.proofs.Common.{◌≡◌, ◌+◌, ◌++◌, ◌≤◌, Bool, List, length, take, drop, ap, sym, subst, ◌∙◌, arith}
+use Rattle.std.proofs.Common.{◌≡◌, ◌+◌, ◌++◌, ◌≤◌, Bool, List, length, take, drop, ap, subst, ◌∙◌, arith}
 use Rattle.blocks.specs.Payload.{all_bits, byte_count, packed, IsPacked}
 use Rattle.values.specs.declared.limits.TheConstants.{MAX_BLOCK_VALUES}
 use Rattle.blocks.proofs.BitsLemmas.{length-truths, packed-truths}
@@ -6,15 +6,10 @@ use Rattle.blocks.proofs.PushLemmas.{are_packed, longer_IsPacked, longer_truths}
 use Rattle.blocks.proofs.RunLemmas.{length-run}
 use Rattle.blocks.proofs.bits.Bits.push_run.Goals.{In_ok-add_run}
 use Rattle.blocks.proofs.bits.Bits.push_run.Goals as goal
+use Rattle.std.proofs.lemmas.Grind.{common_steps}
 
 pub add_run-requires : goal.add_run-requires
-add_run-requires c =
-    let inside = c.self.inside in
-    record {
-      few = omega (arith, c.requires.few, ap length c.self.view_is, length-truths inside.count inside.bytes.items c.self.invariant.whole);
-      packed = are_packed inside.count inside.bytes.items c.self.invariant;
-      within = c.requires.within;
-    }
+add_run-requires c = grind (arith, common_steps, c.requires.few, c.self.invariant.whole, c.self.invariant, c.requires.within, length-truths, are_packed)
 
 -- the run has as many truths as were asked for
 long : (c : In_ok-add_run) → length (take c.args.count (drop c.args.start c.args.others.now)) ≡ c.args.count
@@ -25,14 +20,7 @@ spelt : (c : In_ok-add_run) →
     let run = take c.args.count (drop c.args.start c.args.others.now) in
     c.add_run.new.bytes.items
     ≡ packed (byte_count (c.self.inside.count + length run)) (take c.self.inside.count (all_bits c.self.inside.bytes.items) ++ run)
-spelt c =
-    let inside = c.self.inside in
-    let kept = c.self.invariant in
-    let run = take c.args.count (drop c.args.start c.args.others.now) in
-    subst (λ n. c.add_run.new.bytes.items
-    ≡ packed (byte_count (inside.count + n)) (take inside.count (all_bits inside.bytes.items) ++ run)) (sym (long c))
-    (c.in_ok-add_run.ensures.ok _ (length-truths inside.count inside.bytes.items kept.whole)
-    (sym (packed-truths inside.count inside.bytes.items kept.small kept.whole kept.unused)))
+spelt c = grind (arith, common_steps, c.self.invariant, c.in_ok-add_run.ensures.ok, long, length-truths, packed-truths)
 
 pub invariant_of-self-2 : goal.invariant_of-self-2
 invariant_of-self-2 c =

@@ -4,6 +4,7 @@ use Rattle.std.proofs.lemmas.Int.{to_z-of_z}
 use Rattle.std.proofs.lemmas.List.{take_all, take_more_set}
 use Rattle.blocks.proofs.RunLemmas.{number_is, run_numbers, run_numbers_more}
 use Rattle.blocks.proofs.bits.Bits.put_numbers.Goals as goal
+use Rattle.std.proofs.lemmas.Grind.{common_steps}
 
 pub loop-i-init : goal.loop-i-init
 loop-i-init c = refl
@@ -22,7 +23,4 @@ loop-i-preserved c =
     ∙ sym (run_numbers_more truths c.args.first i c.get.result c.get.ensures)
 
 pub returns : goal.returns
-returns c =
-    sym (take_all c.loop-i.i c.loop-i.out (omega (arith, c.loop-i-test.false, c.loop-i.auto.out)))
-    ∙ c.loop-i.invariant
-    ∙ ap (run_numbers c.args.self.now c.args.first) (omega (arith, c.loop-i-test.false, c.loop-i.auto.i-end))
+returns c = grind (arith, common_steps, c.loop-i-test.false, c.loop-i.auto.out, c.loop-i.invariant, c.loop-i.auto.i-end, take_all, run_numbers)

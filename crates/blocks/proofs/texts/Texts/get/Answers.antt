@@ -1,14 +1,13 @@
-use Rattle.std.proofs.Common.{◌≡◌, ◌<◌, ◌+◌, ◌-◌, ◌∷◌, length, take, drop, get_or, slice_get, slice_range, Some, sym, ap, subst, ◌∙◌, arith, IsCharBoundary}
+use Rattle.std.proofs.Common.{◌≡◌, ◌<◌, ◌+◌, ◌-◌, ◌∷◌, length, take, drop, get_or, slice_range, sym, ap, subst, ◌∙◌, arith, IsCharBoundary}
 use Rattle.std.specs.Prelude.{string_bytes}
 use Rattle.blocks.proofs.CutsLemmas.{Lies, length-cut, lies}
 use Rattle.blocks.proofs.texts.Texts.get.Goals.{After-as_slice-ends, After-begin_of-2, After-range}
 use Rattle.blocks.proofs.texts.Texts.get.Goals as goal
+use Rattle.std.proofs.lemmas.Grind.{common_steps}
 
 -- the text has an end among the ends
 within : (c : After-as_slice-ends) → c.args.i < length c.self.inside.ends.items
-within c =
-    omega
-    (arith, c.requires, ap length c.self.view_is, length-cut 0 c.self.inside.ends.items (string_bytes c.self.inside.text))
+within c = grind (arith, common_steps, c.requires, length-cut)
 
 -- the text lies between the two places that were looked up
 lying : (c : After-begin_of-2)
@@ -48,10 +47,7 @@ lent : (c : After-range)
 lent c = c.range.ensures.value ∙ ap (λ bytes. slice_range bytes c.begin_of.result c.begin_of-2.result) c.as_str.ensures.value
 
 pub returns-clause-text : goal.returns-clause-text
-returns-clause-text c =
-    ap (λ ts. slice_get ts c.args.i) (sym c.self.view_is)
-    ∙ (lying (goal.at.returns-clause-text c).After-begin_of-2).text
-    ∙ sym (ap (λ t. Some t) (lent c))
+returns-clause-text c = grind (arith, common_steps, lying, lent)
 
 pub returns-clause-short : goal.returns-clause-short
 returns-clause-short c =

@@ -3,12 +3,10 @@ use Rattle.std.specs.Prelude.{string_bytes}
 use Rattle.blocks.proofs.CutsLemmas.{Longer, push_text, end_fits}
 use Rattle.blocks.proofs.texts.Texts.push.Goals.{After-push_reserved}
 use Rattle.blocks.proofs.texts.Texts.push.Goals as goal
+use Rattle.std.proofs.lemmas.Grind.{common_steps}
 
 pub overflow_cast-len : goal.overflow_cast-len
-overflow_cast-len c =
-    let long : c.len.result ≡ length (string_bytes c.push_str.new.self) = search rules in
-    let fits = end_fits c.self.inside.ends.items (string_bytes c.self.inside.text) c.args.text.now c.self.invariant c.requires.short in
-    record { fits = omega (arith, long, ap length c.in_ok-push_str.ensures.bytes, fits) }
+overflow_cast-len c = grind (arith, common_steps, c.self.invariant, c.requires.short, c.in_ok-push_str.ensures.bytes, end_fits)
 
 -- the texts with the one more
 longer : (c : After-push_reserved) → Longer c.self.inside.ends.items (string_bytes c.self.inside.text)

@@ -7,16 +7,11 @@ use Rattle.blocks.proofs.CutsLemmas.{RunLies, Longer, run_lies, push_lying, ends
 use Rattle.blocks.proofs.RunLemmas.{length-run}
 use Rattle.blocks.proofs.texts.Texts.push_run.Goals.{After-as_slice-ends, After-as_str, After-add_ends}
 use Rattle.blocks.proofs.texts.Texts.push_run.Goals as goal
+use Rattle.std.proofs.lemmas.Grind.{common_steps}
 
 -- the run ends within the others' ends
 within : (c : After-as_slice-ends) → c.args.start + c.args.count ≤ length c.others.inside.ends.items
-within c =
-    omega (
-      arith,
-      c.requires.within,
-      ap length c.others.view_is,
-      length-cut 0 c.others.inside.ends.items (string_bytes c.others.inside.text),
-    )
+within c = grind (arith, common_steps, c.requires.within, length-cut)
 
 -- the run lies between the two places that were looked up
 lying : (c : After-as_str) → RunLies c.others.inside.ends.items (string_bytes c.others.inside.text) c.args.start c.args.count

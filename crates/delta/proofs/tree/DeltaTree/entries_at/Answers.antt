@@ -1,17 +1,10 @@
-use Rattle.std.proofs.Common.{◌-◌, length, take, drop, ap, ◌∙◌, arith}
+use Rattle.std.proofs.Common.{◌-◌, take, drop, ap, ◌∙◌}
 use Rattle.delta.specs.Tree.{Tree}
 use Rattle.delta.proofs.RangesLemmas.{first-le-past, filter-at}
 use Rattle.delta.proofs.tree.DeltaTree.entries_at.Goals as goal
 
 pub overflow_sub-end : goal.overflow_sub-end
 overflow_sub-end c = first-le-past c.args.sid c.args.self.now.entries _ _ c.index_of_sid-start.ensures c.index_past-end.ensures
-
-pub iter-requires : goal.iter-requires
-iter-requires c =
-    let le = first-le-past c.args.sid c.args.self.now.entries _ _ c.index_of_sid-start.ensures c.index_past-end.ensures in
-    let within = c.index_past-end.ensures.within in
-    let list = ap (λ (w : Tree). length w.entries) c.self.view_is in
-    omega arith
 
 pub returns : goal.returns
 returns c =

@@ -1,4 +1,4 @@
-use Rattle.std.proofs.Common.{◌≡◌, ℕ, ◌+◌, ◌&&◌, false, List, drop, sym, ap, ◌∙◌, subst}
+use Rattle.std.proofs.Common.{◌≡◌, ℕ, ◌+◌, ◌&&◌, false, List, drop, sym, ap, ◌∙◌, subst, arith}
 use Rattle.std.specs.Prelude.{◌==◌, Some, slice_get}
 use Rattle.std.specs.Option.{option_copied}
 use Rattle.std.proofs.lemmas.Float.{T_from_true}
@@ -17,6 +17,7 @@ use Rattle.delta.proofs.PositionsLemmas.{row_only}
 use Rattle.delta.proofs.RowLemmas.{row_is, base_is, base_split, no_insert}
 use Rattle.delta.proofs.tree.DeltaTree.find_row.Goals.{After-next-next, In-Base}
 use Rattle.delta.proofs.tree.DeltaTree.find_row.Goals as goal
+use Rattle.std.proofs.lemmas.Grind.{common_steps}
 
 -- a change of an insert replaces no others
 run_none : (key_cols : ℕ) (es : List Entry) (c : Change) (n : ℕ) → IsRunOf key_cols es c (Into n)
@@ -43,13 +44,7 @@ base c e is =
     no_insert walk.result.index walk.result.sid c.in-Base.field-0 _ (sym c.row_at.ensures ∙ c.in-Base.is) e (read ∙ is)
 
 pub run_from-requires-clause-ahead : goal.run_from-requires-clause-ahead
-run_from-requires-clause-ahead c =
-    let next = next (goal.at.run_from-requires-clause-ahead c).After-next-next in
-    record {
-      within = c.find_walk-index.ensures.walk.within;
-      next_is = next.0;
-      rest_is = next.1;
-    }
+run_from-requires-clause-ahead c = grind (arith, common_steps, c.find_walk-index.ensures.walk.within, next, next_is)
 
 pub run_from-requires-clause-split : goal.run_from-requires-clause-split
 run_from-requires-clause-split c =

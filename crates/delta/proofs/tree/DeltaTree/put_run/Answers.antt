@@ -1,4 +1,4 @@
-use Rattle.std.proofs.Common.{length, sym, ap, ◌∙◌, subst, arith}
+use Rattle.std.proofs.Common.{sym, ap, ◌∙◌, subst, arith}
 use Rattle.model.specs.Entries.{IsLawful}
 use Rattle.delta.specs.Tree.{Tree}
 use Rattle.delta.specs.Changes.{entries_with}
@@ -9,15 +9,7 @@ use Rattle.delta.proofs.tree.DeltaTree.put_run.Goals as goal
 use Rattle.delta.proofs.Words.{with_run}
 
 pub replace_shared-requires-clause-start_le_end : goal.replace_shared-requires-clause-start_le_end
-replace_shared-requires-clause-start_le_end c =
-    let t = c.args.self.now in
-    (run_within t.key_cols c.args.entry.sid c.args.entry.change t.entries c.args.start c.args.end c.requires.run).0
-
-pub replace_shared-requires-clause-within : goal.replace_shared-requires-clause-within
-replace_shared-requires-clause-within c =
-    let t = c.args.self.now in
-    let list = ap (λ (w : Tree). length w.entries) c.self.view_is in
-    omega (arith, (run_within t.key_cols c.args.entry.sid c.args.entry.change t.entries c.args.start c.args.end c.requires.run).1)
+replace_shared-requires-clause-start_le_end c = omega (arith, c.requires.run, run_within)
 
 -- the tree with the entry in place of the run
 put : (c : In_ok-replace_shared) → IsEdited c.self.inside.key_cols c.replace_shared.new.self.entries c.args.self.now

@@ -14,18 +14,8 @@ use Rattle.delta.proofs.tree.DeltaTree.set_at.Goals as goal
 read : (c : After-get) → Some c.get.result.now ≡ slice_get c.args.self.now.entries c.args.at
 read c = c.get.ensures ∙ ap (λ (w : Tree). slice_get w.entries c.args.at) c.self.view_is
 
-pub get-requires : goal.get-requires
-get-requires c =
-    let list = ap (λ (w : Tree). length w.entries) c.self.view_is in
-    omega (arith, c.requires.within)
-
 pub with_cell-requires : goal.with_cell-requires
 with_cell-requires c = c.requires.there c.get.result.now (sym (read c))
-
-pub replace_run-requires-clause-within : goal.replace_run-requires-clause-within
-replace_run-requires-clause-within c =
-    let list = ap (λ (w : Tree). length w.entries) c.self.view_is in
-    omega (arith, c.requires.within)
 
 -- the tree with the entry's value changed
 written : (c : In_ok-replace_run) (e : Entry) → slice_get c.args.self.now.entries c.args.at ≡ Some e

@@ -1,16 +1,14 @@
-use Rattle.std.proofs.Common.{◌≡◌, Option, ◌<◌, ◌+◌, refl, length, get_or, set, sym, ap, ◌∙◌, subst, arith}
+use Rattle.std.proofs.Common.{◌≡◌, ◌<◌, ◌+◌, refl, length, get_or, set, sym, ap, ◌∙◌, subst, arith}
 use Rattle.model.specs.declared.entry.Entry.{Entry}
 use Rattle.model.specs.Entries.{entry_at, IsLawful}
 use Rattle.model.specs.Edits.{change_with_cell, set_ins}
 use Rattle.delta.specs.Tree.{Tree}
-use Rattle.delta.specs.Changes.{has_cell}
 use Rattle.delta.proofs.ChangesLemmas.{HasInsert, nothing, found_in, some_of, cell_of}
-use Rattle.std.specs.Prelude.{IsSomeAnd}
-use Rattle.values.specs.declared.row.Row.{Row}
 use Rattle.delta.proofs.CountedLemmas.{some_get, run_is_set}
 use Rattle.delta.proofs.LawfulLemmas.{IsEdited, edited, IsLawful-set_ins}
 use Rattle.delta.proofs.tree.DeltaTree.set_ins.Goals.{After-get, After-index_of_insert-index, In_ok-replace_run}
 use Rattle.delta.proofs.tree.DeltaTree.set_ins.Goals as goal
+use Rattle.std.proofs.lemmas.Grind.{common_steps}
 
 -- the insert is there
 found : (c : After-index_of_insert-index)
@@ -26,20 +24,13 @@ short c = omega (arith, (found c).short, ap (λ (w : Tree). length w.entries) c.
 
 -- its entry was read
 read : (c : After-get) → c.get.result.now ≡ get_or c.args.self.now.entries c.index_of_insert-index.result nothing
-read c =
-    let n = c.index_of_insert-index.result in
-    some_get c.self.inside.tree.entries n c.get.result.now nothing c.get.ensures
-    ∙ ap (λ (w : Tree). get_or w.entries n nothing) c.self.view_is
+read c = grind (arith, common_steps, c.get.ensures, some_get, nothing)
 
 pub get-requires : goal.get-requires
 get-requires c = short (goal.at.get-requires c).After-index_of_insert-index
 
 pub with_cell-requires : goal.with_cell-requires
-with_cell-requires c =
-    let here = found (goal.at.with_cell-requires c).After-index_of_insert-index in
-    let y = get_or c.args.self.now.entries c.index_of_insert-index.result nothing in
-    subst (λ (e : Entry). has_cell c.args.col e.change) (sym (read c))
-    (cell_of c.args.col y.change (subst (λ (o : Option Row). IsSomeAnd o (λ row. c.args.col < length row)) here.row_is c.requires.there))
+with_cell-requires c = grind (arith, common_steps, c.requires.there, found, nothing, read, cell_of)
 
 pub replace_run-requires-clause-within : goal.replace_run-requires-clause-within
 replace_run-requires-clause-within c =

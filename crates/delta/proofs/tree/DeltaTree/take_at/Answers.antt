@@ -1,14 +1,13 @@
-use Rattle.std.proofs.Common.{length, remove, ap, ◌∙◌, subst, arith}
+use Rattle.std.proofs.Common.{remove, ap, ◌∙◌, subst, arith}
 use Rattle.model.specs.Entries.{IsLawful}
 use Rattle.delta.specs.Tree.{Tree}
 use Rattle.delta.proofs.LawfulLemmas.{IsEdited, edited, IsLawful-remove}
 use Rattle.delta.proofs.tree.DeltaTree.take_at.Goals.{In_ok-remove}
 use Rattle.delta.proofs.tree.DeltaTree.take_at.Goals as goal
+use Rattle.std.proofs.lemmas.Grind.{common_steps}
 
 pub remove-requires-clause-within : goal.remove-requires-clause-within
-remove-requires-clause-within c =
-    let list = ap (λ (w : Tree). length w.entries) c.self.view_is in
-    omega (arith, c.requires)
+remove-requires-clause-within c = grind (arith, common_steps, c.requires)
 
 -- the tree without the entry
 taken : (c : In_ok-remove)

@@ -1,4 +1,4 @@
-use Rattle.std.proofs.Common.{length, remove, sym, ap, ◌∙◌, subst, arith}
+use Rattle.std.proofs.Common.{remove, sym, ap, ◌∙◌, subst, arith}
 use Rattle.model.specs.Entries.{IsLawful}
 use Rattle.model.specs.Edits.{take_ins}
 use Rattle.delta.specs.Tree.{Tree}
@@ -6,6 +6,7 @@ use Rattle.delta.proofs.ChangesLemmas.{HasInsert, found_in}
 use Rattle.delta.proofs.LawfulLemmas.{IsEdited, edited, IsLawful-take_ins}
 use Rattle.delta.proofs.tree.DeltaTree.take_ins.Goals.{After-index_of_insert-index, In_ok-remove}
 use Rattle.delta.proofs.tree.DeltaTree.take_ins.Goals as goal
+use Rattle.std.proofs.lemmas.Grind.{common_steps}
 
 -- the insert is there
 found : (c : After-index_of_insert-index)
@@ -16,12 +17,7 @@ found c =
     c.requires
 
 pub remove-requires-clause-within : goal.remove-requires-clause-within
-remove-requires-clause-within c =
-    omega (
-      arith,
-      (found (goal.at.remove-requires-clause-within c).After-index_of_insert-index).short,
-      ap (λ (w : Tree). length w.entries) c.self.view_is,
-    )
+remove-requires-clause-within c = grind (arith, common_steps, found)
 
 -- the tree without it
 taken : (c : In_ok-remove) → IsEdited c.self.inside.key_cols c.remove.new.self.entries c.args.self.now

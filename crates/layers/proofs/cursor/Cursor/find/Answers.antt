@@ -1,11 +1,10 @@
-use Rattle.std.proofs.Common.{ℕ, ◌+◌, ◌-◌, take, drop, sym, ap, ◌∙◌, arith}
-use Rattle.std.specs.Prelude.{slice_get}
+use Rattle.std.proofs.Common.{◌+◌, ◌-◌, take, ap, ◌∙◌, arith}
 use Rattle.model.specs.Places.{rid_of_insert}
 use Rattle.delta.specs.Tree.{Tree}
-use Rattle.layers.specs.Serialization.{clash_with_first}
 use Rattle.layers.proofs.ClashLemmas.{rebased_place}
 use Rattle.layers.proofs.PassLemmas.{ahead_at, counts_fit}
 use Rattle.layers.proofs.cursor.Cursor.find.Goals as goal
+use Rattle.std.proofs.lemmas.Grind.{common_steps}
 
 pub overflow_add-sid : goal.overflow_add-sid
 overflow_add-sid c =
@@ -24,13 +23,4 @@ returns-clause-rid c =
     ∙ rebased_place c.args.rule y.key_cols e y.entries n c.pass_before.ensures.split
 
 pub returns-clause-clash : goal.returns-clause-clash
-returns-clause-clash c =
-    let y = c.args.self.now.tree.now in
-    let now = c.pass_before.new.self in
-    let tree = c.pass_before.ensures.tree in
-    let at =
-    c.first.ensures ∙ sym (ahead_at now c.pass_before.ensures.cursor) ∙ ap (λ (t : Tree). slice_get t.entries now.passed) tree in
-    let cols = c.key_cols.ensures ∙ ap (λ (t : Tree). t.key_cols) tree in
-    let clash = c.clash_at.ensures y.entries at in
-    let head = ap (λ (k : ℕ). clash_with_first c.args.rule k c.args.i c.args.entry.now now.passed (drop now.passed y.entries)) cols in
-    (now.passed, c.pass_before.ensures.split, clash ∙ head)
+returns-clause-clash c = grind (arith, common_steps, c.pass_before.ensures.tree, c.first.ensures, c.pass_before.ensures.cursor, c.key_cols.ensures, c.clash_at.ensures, c.pass_before.ensures.split, ahead_at)

@@ -5,16 +5,10 @@ use Rattle.layers.proofs.PassLemmas.{counts_fit, next_cursor}
 use Rattle.layers.proofs.cursor.Cursor.pass.Goals as goal
 
 pub overflow_add-self-in-Ins : goal.overflow_add-self-in-Ins
-overflow_add-self-in-Ins c =
-    let here = c.args.self.now in
-    let few = counts_fit here c.requires.cursor in
-    omega (arith, few)
+overflow_add-self-in-Ins c = omega (arith, c.requires.cursor, counts_fit)
 
 pub overflow_add-self-in-Del : goal.overflow_add-self-in-Del
-overflow_add-self-in-Del c =
-    let here = c.args.self.now in
-    let few = counts_fit here c.requires.cursor in
-    omega (arith, few)
+overflow_add-self-in-Del c = omega (arith, c.requires.cursor, counts_fit)
 
 pub returns-in-Ins-clause-cursor : goal.returns-in-Ins-clause-cursor
 returns-in-Ins-clause-cursor c =

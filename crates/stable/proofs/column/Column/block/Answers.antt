@@ -3,19 +3,10 @@ use Rattle.blocks.specs.Column.{Column}
 use Rattle.stable.specs.Column.{block_at, block_count}
 use Rattle.stable.proofs.ColumnLemmas.{length_blocks, block_here}
 use Rattle.stable.proofs.column.Column.block.Goals as goal
+use Rattle.std.proofs.lemmas.Grind.{common_steps}
 
 pub index-requires : goal.index-requires
-index-requires c =
-    let inside = c.self.inside in
-    let blocked = c.self.invariant.blocked in
-    omega (
-      arith,
-      c.requires,
-      blocked.counted,
-      ap (λ (s : Column). length s.values) c.self.view_is,
-      length_blocks inside.ty inside.count inside.blocks.items blocked,
-      inside.blocks.ok.0,
-    )
+index-requires c = grind (arith, common_steps, c.self.invariant.blocked, c.requires, length_blocks)
 
 pub returns : goal.returns
 returns c =

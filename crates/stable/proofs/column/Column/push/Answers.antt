@@ -1,4 +1,4 @@
-use Rattle.std.proofs.Common.{◌≡◌, ◌+◌, ◌++◌, ◌∷◌, [], ap, subst, sym, ◌∙◌, refl, true}
+use Rattle.std.proofs.Common.{◌≡◌, ◌+◌, ◌∷◌, [], ap, subst, sym, ◌∙◌, refl, true, arith}
 use Rattle.values.specs.Lent.{value_of}
 use Rattle.values.specs.Shape.{has_type}
 use Rattle.blocks.specs.Column.{Column}
@@ -6,6 +6,7 @@ use Rattle.stable.specs.Column.{joined, all_may_stand}
 use Rattle.stable.proofs.PushLemmas.{shown, kept}
 use Rattle.stable.proofs.StandLemmas.{one_stands, more_stand}
 use Rattle.stable.proofs.column.Column.push.Goals as goal
+use Rattle.std.proofs.lemmas.Grind.{common_steps}
 
 pub invariant_of-self-2 : goal.invariant_of-self-2
 invariant_of-self-2 c =
@@ -25,10 +26,4 @@ invariant_of-self-2 c =
     }
 
 pub returns-clause-ok : goal.returns-clause-ok
-returns-clause-ok c =
-    let inside = c.self.inside in
-    let v = value_of c.args.value in
-    ap (λ vs. record { ty = inside.ty; values = vs })
-    (shown inside.ty inside.count inside.blocks.items c.self.invariant.blocked (v ∷ []) c.add_value.new.blocks.items
-    c.in_ok-add_value.ensures.ok)
-    ∙ ap (λ (x : Column). record { ty = x.ty; values = x.values ++ v ∷ [] }) c.self.view_is
+returns-clause-ok c = grind (arith, common_steps, c.self.invariant.blocked, c.in_ok-add_value.ensures.ok, shown)

@@ -4,6 +4,7 @@ use Rattle.stable.specs.Column.{joined, all_may_stand}
 use Rattle.stable.proofs.PushLemmas.{shown, kept, in_new}
 use Rattle.stable.proofs.StandLemmas.{more_stand, block_stands}
 use Rattle.stable.proofs.column.Column.push_block.Goals as goal
+use Rattle.std.proofs.lemmas.Grind.{common_steps}
 
 pub invariant_of-self-2 : goal.invariant_of-self-2
 invariant_of-self-2 c =
@@ -31,18 +32,4 @@ invariant_of-self-2 c =
     }
 
 pub returns-clause-ok : goal.returns-clause-ok
-returns-clause-ok c =
-    let inside = c.self.inside in
-    let more = c.args.block.values in
-    let filled : inside.count % 1024 ≡ 0 =
-    omega (arith, c.requires.filled, ap (λ (x : Column). length x.values) c.self.view_is, c.self.invariant.blocked.counted) in
-    let same : ◌≡◌ {A = Column} c.args.block (record { ty = inside.ty; values = more }) =
-    ap (λ ty. record { ty = ty; values = more }) (c.requires.typed ∙ sym (ap (λ (x : Column). x.ty) c.self.view_is)) in
-    let longer =
-    c.in_ok-push.ensures.items
-    ∙ ap (λ (b : Column). inside.blocks.items ++ b ∷ []) same
-    ∙ in_new inside.ty inside.count inside.blocks.items c.self.invariant.blocked more filled
-    (omega (arith, c.len-more.ensures.len, c.len-more.ensures.few)) c.requires.some in
-    ap (λ vs. record { ty = inside.ty; values = vs })
-    (shown inside.ty inside.count inside.blocks.items c.self.invariant.blocked more c.push.new.self.items longer)
-    ∙ ap (λ (x : Column). record { ty = x.ty; values = x.values ++ more }) c.self.view_is
+returns-clause-ok c = grind (arith, common_steps, c.requires.filled, c.self.invariant.blocked.counted, c.requires.typed, c.in_ok-push.ensures.items, c.self.invariant.blocked, c.len-more.ensures.len, c.len-more.ensures.few, c.requires.some, in_new, shown)

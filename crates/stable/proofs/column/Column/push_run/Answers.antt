@@ -1,4 +1,4 @@
-use Rattle.std.proofs.Common.{◌≡◌, ◌+◌, ◌++◌, length, take, drop, sym, ap, subst, ◌∙◌, arith}
+use Rattle.std.proofs.Common.{◌≡◌, ◌+◌, length, take, drop, sym, ap, subst, ◌∙◌, arith}
 use Rattle.blocks.specs.Column.{Column, AllFit, Fits}
 use Rattle.blocks.proofs.CallerLemmas.{all_take, all_drop}
 use Rattle.stable.specs.Column.{joined, all_may_stand}
@@ -6,6 +6,7 @@ use Rattle.stable.proofs.PushLemmas.{shown, kept}
 use Rattle.stable.proofs.RunLemmas.{length-run}
 use Rattle.stable.proofs.StandLemmas.{more_stand, block_stands}
 use Rattle.stable.proofs.column.Column.push_run.Goals as goal
+use Rattle.std.proofs.lemmas.Grind.{common_steps}
 
 pub add_run-requires-clause-typed : goal.add_run-requires-clause-typed
 add_run-requires-clause-typed c = c.requires.typed ∙ sym (ap (λ (x : Column). x.ty) c.self.view_is)
@@ -36,10 +37,4 @@ invariant_of-self-2 c =
     }
 
 pub returns-clause-ok : goal.returns-clause-ok
-returns-clause-ok c =
-    let inside = c.self.inside in
-    let run = take c.args.run (drop c.args.start c.args.block.now.values) in
-    ap (λ vs. record { ty = inside.ty; values = vs })
-    (shown inside.ty inside.count inside.blocks.items c.self.invariant.blocked run c.add_run.new.blocks.items
-    c.in_ok-add_run.ensures.ok)
-    ∙ ap (λ (x : Column). record { ty = x.ty; values = x.values ++ run }) c.self.view_is
+returns-clause-ok c = grind (arith, common_steps, c.self.invariant.blocked, c.in_ok-add_run.ensures.ok, shown)

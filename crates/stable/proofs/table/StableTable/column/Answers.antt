@@ -3,17 +3,10 @@ use Rattle.stable.specs.Rows.{column_at}
 use Rattle.stable.specs.Stable.{Stable}
 use Rattle.stable.proofs.RowsLemmas.{width, finds_column}
 use Rattle.stable.proofs.table.StableTable.column.Goals as goal
+use Rattle.std.proofs.lemmas.Grind.{common_steps}
 
 pub index-requires : goal.index-requires
-index-requires c =
-    let inside = c.self.inside in
-    omega (
-      arith,
-      c.requires,
-      ap (λ (s : Stable). length s.schema.types) c.self.view_is,
-      width inside.schema inside.count inside.columns.items c.self.invariant,
-      inside.columns.ok.0,
-    )
+index-requires c = grind (arith, common_steps, c.requires, c.self.invariant, width)
 
 pub returns : goal.returns
 returns c =

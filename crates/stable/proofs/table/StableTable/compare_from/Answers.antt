@@ -10,22 +10,10 @@ use Rattle.stable.proofs.RowsLemmas.{length_rows, row_width}
 use Rattle.stable.proofs.BelowLemmas.{compared, decided, ended}
 use Rattle.stable.proofs.SpanLemmas.{drop_tied, more_cells, wide_rows}
 use Rattle.stable.proofs.table.StableTable.compare_from.Goals as goal
+use Rattle.std.proofs.lemmas.Grind.{common_steps}
 
 pub loop-col-init : goal.loop-col-init
-loop-col-init c =
-    let s = c.args.self.now in
-    let inside = c.self.inside in
-    let row = get_or s.rows c.args.sid [] in
-    let wide =
-    wide_rows inside.schema inside.count inside.columns.items c.self.invariant c.key_cols-key_cols.ensures.lawful.key_within s
-    c.self.view_is c.args.sid c.requires.row in
-    record {
-      cells = c.requires.tied;
-      tie =
-          drop_tied (take s.schema.key_cols row) c.args.key.now c.args.from
-          (omega (arith, length-take s.schema.key_cols row, wide, c.requires.key)) c.requires.cell
-          (λ k lt. get_or-take s.schema.key_cols row k (Truth false) (omega (arith, lt, c.requires.key)) ∙ c.requires.tied k lt);
-    }
+loop-col-init c = grind (arith, common_steps, c.self.invariant, c.key_cols-key_cols.ensures.lawful.key_within, c.requires.row, c.requires.tied, c.requires.key, c.requires.cell, wide_rows, drop_tied, length-take, get_or-take)
 
 pub returns-in_default-clause-order : goal.returns-in_default-clause-order
 returns-in_default-clause-order c =

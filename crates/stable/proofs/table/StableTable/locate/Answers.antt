@@ -1,14 +1,8 @@
-use Rattle.std.proofs.Common.{ap, ◌∙◌}
-use Rattle.std.specs.Prelude.{slice_get}
-use Rattle.stable.specs.Stable.{holds_key}
+use Rattle.std.proofs.Common.{arith}
 use Rattle.stable.proofs.StableLemmas.{stable_sorted}
 use Rattle.stable.proofs.RankLemmas.{there-at_rank}
 use Rattle.stable.proofs.table.StableTable.locate.Goals as goal
+use Rattle.std.proofs.lemmas.Grind.{common_steps}
 
 pub returns-clause-there : goal.returns-clause-there
-returns-clause-there c =
-    let s = c.args.self.now in
-    let key = c.args.key.now in
-    c.has_key_at.ensures
-    ∙ ap (λ place. holds_key s.schema.key_cols key (slice_get s.rows place)) c.rank_of-place.ensures.rank
-    ∙ there-at_rank s.schema.key_cols key s.rows (stable_sorted s c.rank_of-place.ensures.lawful)
+returns-clause-there c = grind (arith, common_steps, c.has_key_at.ensures, c.rank_of-place.ensures.rank, c.rank_of-place.ensures.lawful, there-at_rank, stable_sorted)

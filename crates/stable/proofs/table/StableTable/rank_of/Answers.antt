@@ -1,8 +1,7 @@
-use Rattle.std.proofs.Common.{◌≡◌, ◌<◌, ◌≤◌, T, true, false, length, get_or, sym, ap, ◌∙◌, subst, w64, FitsSigned, List, arith, rules}
+use Rattle.std.proofs.Common.{◌≡◌, ◌<◌, ◌≤◌, T, true, false, length, sym, ap, ◌∙◌, subst, w64, FitsSigned, List, arith, rules}
 use Rattle.std.specs.List.Sorted.{IsPartitionedBy, IsPartitionPoint}
 use Rattle.std.proofs.lemmas.Int.{to_z-of_z}
 use Rattle.values.specs.declared.row.Key.{Key}
-use Rattle.values.specs.declared.value.ColumnType.TheVariants as column
 use Rattle.values.specs.declared.value.Value.{Value}
 use Rattle.values.specs.Orders.{key_cmp}
 use Rattle.blocks.specs.Column.{Column}
@@ -15,27 +14,10 @@ use Rattle.stable.proofs.NumberLemmas.{as_many, column_parted, rank-column, rows
 use Rattle.stable.proofs.RowsLemmas.{finds_column, length_rows, width}
 use Rattle.stable.proofs.StableLemmas.{stable_sorted}
 use Rattle.stable.proofs.table.StableTable.rank_of.Goals as goal
+use Rattle.std.proofs.lemmas.Grind.{common_steps}
 
 pub index-requires : goal.index-requires
-index-requires c =
-    let inside = c.self.inside in
-    omega (
-      arith,
-      c.in-Some.ensures.there,
-      ap (λ (s : Stable). length s.schema.types) c.self.view_is,
-      width inside.schema inside.count inside.columns.items c.self.invariant,
-      inside.columns.ok.0,
-    )
-
-pub count_below-requires-clause-typed : goal.count_below-requires-clause-typed
-count_below-requires-clause-typed c =
-    let inside = c.self.inside in
-    let some : 0 < length inside.schema.types =
-    omega (arith, c.in-Some.ensures.there, ap (λ (s : Stable). length s.schema.types) c.self.view_is) in
-    ap (λ (x : Column). x.ty)
-    (finds_column inside.schema inside.count inside.columns.items c.self.invariant 0 c.index.result.now c.index.ensures some)
-    ∙ ap (λ (s : Stable). get_or s.schema.types 0 column.Int) c.self.view_is
-    ∙ c.in-Some.ensures.typed
+index-requires c = grind (arith, common_steps, c.in-Some.ensures.there, c.self.invariant, width)
 
 pub count_below-requires-clause-parted : goal.count_below-requires-clause-parted
 count_below-requires-clause-parted c =
@@ -84,19 +66,4 @@ returns-in-Some-clause-rank c =
     ∙ ap (λ s. rank c.args.key.now (table_in s)) c.self.view_is
 
 pub returns-in-Some-clause-few : goal.returns-in-Some-clause-few
-returns-in-Some-clause-few c =
-    let inside = c.self.inside in
-    let few = c.self.invariant.stable.few in
-    let some : 0 < length inside.schema.types =
-    omega (arith, c.in-Some.ensures.there, ap (λ (s : Stable). length s.schema.types) c.self.view_is) in
-    let filled =
-    c.self.invariant.filled 0 c.index.result.now
-    (omega (arith, some, width inside.schema inside.count inside.columns.items c.self.invariant)) in
-    omega (
-      arith,
-      c.count_below.ensures.few,
-      filled,
-      ap (λ (x : Column). length x.values) c.index.ensures,
-      few,
-      length_rows inside.count inside.columns.items,
-    )
+returns-in-Some-clause-few c = grind (arith, common_steps, c.self.invariant.stable.few, c.in-Some.ensures.there, c.self.invariant.filled, c.self.invariant, c.count_below.ensures.few, c.index.ensures, width, length_rows)

@@ -10,6 +10,7 @@ use Rattle.stable.proofs.SpanLemmas.{shared_cells, wide_rows}
 use Rattle.stable.proofs.StableLemmas.{stable_sorted}
 use Rattle.stable.proofs.table.StableTable.rank_of_cells.Goals.{After-min-tied}
 use Rattle.stable.proofs.table.StableTable.rank_of_cells.Goals as goal
+use Rattle.std.proofs.lemmas.Grind.{common_steps}
 
 -- the rows that are left have the cells that both ends have
 left_have : (c : After-min-tied) → (k : ℕ) → c.loop-low.low ≤ k → k < c.loop-low.high
@@ -26,22 +27,10 @@ left_have c =
     h.within h.few h.short h.some h.before h.more h.after
 
 pub rank_among-requires-clause-span : goal.rank_among-requires-clause-span
-rank_among-requires-clause-span c =
-    let h = c.loop-low.invariant in
-    record {
-      ordered = h.ordered;
-      within = h.within;
-      below = h.below;
-      above = h.above;
-      cells = left_have (goal.at.rank_among-requires-clause-span c).After-min-tied;
-    }
+rank_among-requires-clause-span c = grind (arith, common_steps, c.loop-low.invariant, left_have)
 
 pub compare_from-order-requires-clause-tied : goal.compare_from-order-requires-clause-tied
-compare_from-order-requires-clause-tied c =
-    let low = c.loop-low.low in
-    let middle = low + (c.loop-low.high - low) / 2 in
-    left_have (goal.at.compare_from-order-requires-clause-tied c).After-min-tied middle (omega arith)
-    (omega (arith, c.loop-low-test.true))
+compare_from-order-requires-clause-tied c = grind (arith, common_steps, c.loop-low-test.true, left_have)
 
 pub loop-low-preserved-then-is_lt : goal.loop-low-preserved-then-is_lt
 loop-low-preserved-then-is_lt c =
