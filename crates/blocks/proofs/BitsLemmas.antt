@@ -251,7 +251,7 @@ low_bits-any (suc k) byte =
     by (suc zero) lt e ih = ap not (sym (ne_eqb (byte % 2 ^ suc k) 0 (omega (arith, e, pow_pos k))))
     by (suc (suc b)) lt e ih = absurd (omega arith)
 
-drop-all_bits : (q r : ℕ) (bytes : List ℕ) → drop (8 * q + r) (all_bits bytes) ≡ drop r (all_bits (drop q bytes))
+pub drop-all_bits : (q r : ℕ) (bytes : List ℕ) → drop (8 * q + r) (all_bits bytes) ≡ drop r (all_bits (drop q bytes))
 drop-all_bits zero r bytes = search rules
 drop-all_bits (suc q) r [] = drop_all (8 * suc q + r) [] (omega arith) ∙ sym (drop_all r [] (omega arith))
 drop-all_bits (suc q) r (byte ∷ bytes) =

@@ -6,6 +6,7 @@ mod IntsLemmas
 mod LawsLemmas
 mod ReadLemmas
 mod RunLemmas
+mod SpreadLemmas
 mod TextsLemmas
 mod ZerosLemmas
 mod PushLemmas

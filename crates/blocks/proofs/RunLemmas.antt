@@ -1,12 +1,16 @@
 -- A run of a list put after another list.
-use Rattle.std.proofs.Common.{◌≡◌, ℕ, zero, suc, ◌+◌, ◌<◌, ◌≤◌, List, [], ◌∷◌, ◌++◌, length, map, take, drop, get_or, slice_get, Some, Result, Ok, Err, OnOk, OnErr, Bool, true, false, cond, pos, append_assoc, refl, sym, ap, subst, ◌∙◌, arith}
+use Rattle.std.proofs.Common.{◌≡◌, ℕ, zero, suc, ◌+◌, ◌-◌, ◌/◌, ◌%◌, ◌<◌, ◌≤◌, List, [], ◌∷◌, ◌++◌, length, map, take, drop, get_or, slice_get, Some, Result, Ok, Err, OnOk, OnErr, Bool, true, false, cond, pos, append_assoc, refl, sym, ap, subst, ◌∙◌, arith}
 use Rattle.std.specs.Prelude.{ℤ}
 use mir.Val.{bool_byte}
 use Rattle.std.specs.List.{AllByRecursion}
-use Rattle.std.proofs.lemmas.List.{take_more, take-map, drop-map, map-append, get_or-drop, length-append, length-drop, length-take}
+use Rattle.std.proofs.Math.Seq.{take-add, take-append-add}
+use Rattle.std.proofs.lemmas.List.{drop_more, drop-drop, drop-take, take-append-le, take-take, take_more, take-map, drop-map, map-append, get_or-drop, length-append, length-drop, length-take}
 use Rattle.std.proofs.lemmas.Option.{slice_get_within, get_or_from_slice_get}
 use Rattle.blocks.specs.Column.{Column, IsBlock}
 use Rattle.std.proofs.lemmas.Grind.{common_steps}
+use Rattle.blocks.specs.Payload.{all_bits}
+use Rattle.blocks.proofs.BitsLemmas.{drop-all_bits, length-all_bits}
+use Rattle.blocks.proofs.SpreadLemmas.{byte_truths}
 
 -- one more of the run
 pub run_more : {X : Type 0} (front xs : List X) (start i : ℕ) (x : X) → slice_get xs (start + i) ≡ Some x
@@ -31,21 +35,80 @@ pub map-with_run : {X Y : Type 0} (f : X → Y) (front xs : List X) (start i : �
     → map f (front ++ take i (drop start xs)) ≡ map f front ++ take i (drop start (map f xs))
 map-with_run f front xs start i = grind (arith, common_steps, map-append, take-map, drop-map)
 
--- ---- truths as numbers
+-- ---- truths as bytes and as numbers
+
+-- the bytes of so many truths, from one of them on: 1 for true, and 0 for false
+abbrev pub run_bytes : List Bool → ℕ → ℕ → List ℕ
+run_bytes truths first count = map (λ truth. cond truth 1 0) (take count (drop first truths))
+
+pub byte_is : (truth : Bool) → bool_byte truth ≡ cond truth 1 0
+byte_is true = refl
+byte_is false = refl
+
+pub run_bytes_more : (truths : List Bool) (first i : ℕ) (truth : Bool) → slice_get truths (first + i) ≡ Some truth
+    → run_bytes truths first (i + 1) ≡ run_bytes truths first i ++ cond truth 1 0 ∷ []
+run_bytes_more truths first i truth is =
+    ap (map (λ truth. cond truth 1 0)) (sym (run_more [] truths first i truth is))
+    ∙ map-append (λ truth. cond truth 1 0) (take i (drop first truths)) (truth ∷ [])
+
+-- those of some, and of more after them
+pub run_bytes_add : (truths : List Bool) (first done more : ℕ)
+    → run_bytes truths first (done + more) ≡ run_bytes truths first done ++ run_bytes truths (first + done) more
+run_bytes_add truths first done more =
+    ap (map (λ truth. cond truth 1 0)) (take-add done more (drop first truths))
+    ∙ map-append (λ truth. cond truth 1 0) (take done (drop first truths)) (take more (drop done (drop first truths)))
+    ∙ ap (λ rest. run_bytes truths first done ++ map (λ truth. cond truth 1 0) (take more rest)) (drop-drop done first truths)
 
 -- the numbers of so many truths, from one of them on
 abbrev pub run_numbers : List Bool → ℕ → ℕ → List ℤ
 run_numbers truths first count = map (λ truth. cond truth (pos 1) (pos 0)) (take count (drop first truths))
 
-pub number_is : (truth : Bool) → pos (bool_byte truth) ≡ cond truth (pos 1) (pos 0)
-number_is true = refl
-number_is false = refl
+-- their bytes are these
+pub numbers_of_bytes : (truths : List Bool) → map pos (map (λ truth. cond truth 1 0) truths) ≡ map (λ truth. cond truth (pos 1) (pos 0)) truths
+numbers_of_bytes [] = refl
+numbers_of_bytes (true ∷ truths) = ap (λ ns. pos 1 ∷ ns) (numbers_of_bytes truths)
+numbers_of_bytes (false ∷ truths) = ap (λ ns. pos 0 ∷ ns) (numbers_of_bytes truths)
 
-pub run_numbers_more : (truths : List Bool) (first i : ℕ) (truth : Bool) → slice_get truths (first + i) ≡ Some truth
-    → run_numbers truths first (i + 1) ≡ run_numbers truths first i ++ cond truth (pos 1) (pos 0) ∷ []
-run_numbers_more truths first i truth is =
-    ap (map (λ truth. cond truth (pos 1) (pos 0))) (sym (run_more [] truths first i truth is))
-    ∙ map-append (λ truth. cond truth (pos 1) (pos 0)) (take i (drop first truths)) (truth ∷ [])
+pub run_numbers_add : (truths : List Bool) (first done more : ℕ)
+    → run_numbers truths first (done + more) ≡ run_numbers truths first done ++ run_numbers truths (first + done) more
+run_numbers_add truths first done more =
+    sym (numbers_of_bytes (take (done + more) (drop first truths)))
+    ∙ ap (map pos) (run_bytes_add truths first done more)
+    ∙ map-append pos (run_bytes truths first done) (run_bytes truths (first + done) more)
+    ∙ ap (λ ns. ns ++ map pos (run_bytes truths (first + done) more)) (numbers_of_bytes (take done (drop first truths)))
+    ∙ ap (λ ns. run_numbers truths first done ++ ns) (numbers_of_bytes (take more (drop (first + done) truths)))
+
+-- the begin of a room, of which a part was put in its place
+pub take_filled : {X : Type 0} (done more : ℕ) (out part rest : List X) → done ≤ length out → more ≤ length part
+    → take (done + more) (take done out ++ (part ++ rest)) ≡ take done out ++ take more part
+take_filled done more out part rest fits few =
+    let long : length (take done out) ≡ done = omega (arith, length-take done out, fits) in
+    ap (λ n. take (n + more) (take done out ++ (part ++ rest))) (sym long)
+    ∙ take-append-add (take done out) (part ++ rest) more
+    ∙ ap (λ ns. take done out ++ ns) (take-append-le more part rest few)
+
+-- a run of the first of a list
+run_of_take : {X : Type 0} (n first count : ℕ) (xs : List X) → first + n ≤ count → take n (drop first (take count xs)) ≡ take n (drop first xs)
+run_of_take n first count xs within =
+    let parts : first + (count - first) ≡ count = omega arith in
+    ap (λ k. take n (drop first (take k xs))) (sym parts)
+    ∙ ap (take n) (drop-take first (count - first) xs)
+    ∙ take-take n (count - first) (drop first xs) (omega (arith, within))
+
+-- truths from the first of a byte on that are eight at least begin with those of the byte
+pub run_bytes_of_byte : (truths : List Bool) (bytes : List ℕ) (count first byte : ℕ) → take count (all_bits bytes) ≡ truths
+    → first % 8 ≡ 0 → first + 8 ≤ length truths → byte ≡ get_or bytes (first / 8) byte → byte_truths byte ≡ run_bytes truths first 8
+run_bytes_of_byte truths bytes count first byte is even within read =
+    ap (map (λ truth. cond truth 1 0)) (sym (
+    ap (λ bs. take 8 (drop first bs)) (sym is)
+    ∙ run_of_take 8 first count (all_bits bytes) (omega (arith, within, ap length is, length-take count (all_bits bytes)))
+    ∙ ap (λ n. take 8 (drop n (all_bits bytes))) (omega (arith, even))
+    ∙ ap (take 8) (drop-all_bits (first / 8) 0 bytes)
+    ∙ ap (λ rest. take 8 (all_bits rest)) (drop_more bytes (first / 8) byte there ∙ ap (λ b. b ∷ drop (first / 8 + 1) bytes) (sym read))
+    ))
+  where
+    there : first / 8 < length bytes
+    there = omega (arith, within, ap length is, length-take count (all_bits bytes), length-all_bits bytes)
 
 -- ---- what holds of each
 

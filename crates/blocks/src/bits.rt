@@ -1,11 +1,14 @@
 //! Truth values, eight a byte.
 ghost use Rattle.std.specs.Prelude.{◌≡◌, ◌<◌, ◌≤◌, ◌+◌, ◌-◌, ◌*◌, ◌^◌, ◌++◌, ◌∷◌, [], Bool, List, pos, cond, length, map, take, drop, Some, slice_get, IfOk, IsOk, OnOk, OnErr, IsTrue, vec_capacity};
 ghost use Rattle.values.specs.declared.limits.TheConstants.{MAX_BLOCK_VALUES};
-ghost use Rattle.blocks.specs.Payload.{ArePacked, all_bits, is_true, IsPacked, bit_of, byte_of, byte_count, packed, has_set_padding};
+ghost use Rattle.blocks.specs.Payload.{ArePacked, all_bits, is_true, IsPacked, bit_of, bits_of, byte_of, byte_count, packed, has_set_padding};
 
 use std::alloc::Global;
 use std::marker::Model;
 use values::{NoMemory, Value};
+
+/// So many truths go through bytes into numbers at once.
+const AT_ONCE: usize = 64;
 
 /// Up to 1,024 truth values, which contracts see as their list. They lie as their payload has them: the first is the
 /// highest bit of the first byte, and the bits after the last are 0.
@@ -51,8 +54,46 @@ impl Bits {
     {
         let length = self.len();
         prove!(first + out.len() <= length);
-        for i in 0..out.len() {
-            out[i] = i64::from(self.get(first + i));
+        let mut bytes = [0; AT_ONCE];
+        let mut done = 0;
+        while done < out.len() {
+            let more = (out.len() - done).min(AT_ONCE);
+            self.put_bytes(first + done, &mut bytes[..more]);
+            widen(&bytes[..more], &mut out[done..done + more]);
+            done += more;
+        }
+    }
+
+    /// Puts truths from one of them on into a room of bytes, as many as it holds: 1 for true, and 0 for false.
+    fn put_bytes(&self, first: usize, out: &mut [u8])
+        requires { first + length out.old ≤ length self.now }
+        ensures { out.new ≡ map (λ truth. cond truth 1 0) (take (length out.old) (drop first self.now)) }
+    {
+        let length = self.len();
+        prove!(first + out.len() <= length);
+        let mut done = 0;
+        while done < out.len() {
+            done += self.put_next(first + done, &mut out[done..]);
+        }
+    }
+
+    /// Puts truths from one of them on at the begin of a room, and answers how many: the eight of a byte where that one is the
+    /// first of its byte and the room has eight places, and else that one alone.
+    #[inline(always)]
+    fn put_next(&self, first: usize, out: &mut [u8]) -> usize
+        requires some { 0 < length out.old }
+        requires within { first + length out.old ≤ length self.now }
+        ensures length { length out.new ≡ length out.old }
+        ensures some { 0 < result }
+        ensures few { result ≤ length out.old }
+        ensures truths { take result out.new ≡ map (λ truth. cond truth 1 0) (take result (drop first self.now)) }
+    {
+        if first % 8 == 0 && out.len() >= 8 {
+            out[..8].copy_from_slice(&truths_in(self.bytes[first / 8]));
+            8
+        } else {
+            out[0] = u8::from(self.get(first));
+            1
         }
     }
 
@@ -157,6 +198,27 @@ impl Bits {
             bytes,
             count: *count,
         })
+    }
+}
+
+/// The truths of a byte, 1 for true and 0 for false. The product has the byte eight times, each nine bits above the one before:
+/// so the highest bit of each of its bytes is one truth after the other.
+#[inline(always)]
+fn truths_in(byte: u8) -> [u8; 8]
+    ensures { result ≡ map (λ truth. cond truth 1 0) (bits_of byte) }
+{
+    let copies = u64::from(byte).wrapping_mul(0x8040_2010_0804_0201);
+    ((copies >> 7) & 0x0101_0101_0101_0101).to_le_bytes()
+}
+
+/// Puts bytes as numbers into a room for as many.
+#[inline(always)]
+fn widen(bytes: &[u8], out: &mut [i64])
+    requires { length bytes.now ≡ length out.old }
+    ensures { out.new ≡ map pos bytes.now }
+{
+    for i in 0..bytes.len() {
+        out[i] = i64::from(bytes[i]);
     }
 }
 
