@@ -1,5 +1,5 @@
 -- What a manager holds after a commit.
-use Rattle.std.proofs.Common.{◌≡◌, suc, ◌+◌, ◌<◌, ◌^◌, List, [], ◌∷◌, ◌++◌, length, refl, sym, ap, ◌∙◌, arith}
+use Rattle.std.proofs.Common.{◌≡◌, suc, ◌+◌, ◌<◌, ◌^◌, List, [], ◌∷◌, ◌++◌, length, ℕ, Some, None, refl, sym, ap, ◌∙◌, subst, arith}
 use Rattle.std.specs.Prelude.{nat_lt}
 use Rattle.std.specs.List.{list_any}
 use Rattle.std.proofs.lemmas.List.{length-append}
@@ -8,13 +8,14 @@ use Rattle.model.specs.declared.write.CommitReply.{CommitReply}
 use Rattle.model.specs.declared.write.CommitReply.TheVariants.{Committed}
 use Rattle.model.specs.Effects.{table_with}
 use Rattle.model.specs.Clashes.{conflicts}
-use Rattle.model.specs.History.{table_with_all}
+use Rattle.model.specs.History.{IsLegal, table_with_all}
 use Rattle.delta.specs.Tree.{Tree}
 use Rattle.txn.specs.Txn.{Transaction, IsTransaction, effects_of}
 use Rattle.txn.specs.Version.{Lower, LayeredVersion, numbered}
-use Rattle.manager.specs.Managed.{Managed, newest_table, newest_number, IsOwn, is_too_old, commits_in, commits_since, reply_due, record_of, with_record, with_layers}
+use Rattle.manager.specs.History.{Recorded}
+use Rattle.manager.specs.Managed.{Managed, managed_of, newest_table, newest_number, IsOwn, is_too_old, commits_in, commits_since, reply_due, record_of, with_record, with_layers}
 use Rattle.manager.specs.Kept.{HoldsNewest, commit_trees}
-use Rattle.manager.specs.Prepared.{LeavesTable, Granted, IsGrant}
+use Rattle.manager.specs.Prepared.{LeavesTable, Granted, IsGrant, IsInstalled, IsPrepared, Prepared}
 use Rattle.manager.proofs.HistoryLemmas.{granted_when, managed_over, next_managed, refused_commits, granted_commits, table_with_all-one}
 use Rattle.manager.proofs.KeptLemmas.{kept_next}
 
@@ -64,3 +65,33 @@ module _ (m : Managed) (l : Lower) (newest : LayeredVersion) (kept : List Tree) 
             ∙ kept_next m.schema m.start.table (commits_in m) m.start.recent x grant.tree is.tree_is
             ∙ (λ i. keep_last m.start.recent (commit_trees m.schema m.start.table (more i)));
       }
+
+module _ (h : Recorded) (made : ℕ) (newest : LayeredVersion) (kept : List Tree)
+    (holds : HoldsNewest (managed_of h made newest.layers) newest.layers newest kept) (txn : Transaction) (k : IsTransaction txn)
+    (own : IsOwn (managed_of h made newest.layers) txn) (p : Prepared) (told : IsPrepared (managed_of h made newest.layers) txn p)
+  where
+    -- the record of a commit that was prepared is legal after those before it
+    pub legal_after : IsLegal h.schema h.start (h.records ++ record_of txn p.reply ∷ [])
+    legal_after = (next_managed (managed_of h made newest.layers) holds.lawful txn k own p.reply told.due told.few).legal
+
+    -- what a manager holds once it is entered, where it leaves the table
+    pub refused_after : p.granted ≡ None
+        → HoldsNewest (managed_of (record h { records = h.records ++ record_of txn p.reply ∷ [] }) (suc made) newest.layers) newest.layers
+        newest kept
+    refused_after none =
+        let m = managed_of h made newest.layers in
+        refused_holds m newest.layers newest kept holds txn k own told.few p.reply told.due
+        (subst (IsInstalled m txn p.reply) none told.installed)
+
+    -- and where it is granted
+    pub granted_after : (g : Granted) → p.granted ≡ Some g
+        → HoldsNewest (managed_of (record h { records = h.records ++ record_of txn p.reply ∷ [] }) (suc made) g.layers) g.layers g.version
+        (keep_last h.start.recent (kept ++ g.tree ∷ []))
+    granted_after g some =
+        let m : Managed = managed_of h made newest.layers in
+        let installed : IsInstalled m txn p.reply (Some g) = subst (IsInstalled m txn p.reply) some told.installed in
+        let reply = installed.0 in
+        subst
+        (λ (r : CommitReply). HoldsNewest (with_layers (with_record m (record_of txn r)) g.layers) g.layers g.version
+        (keep_last h.start.recent (kept ++ g.tree ∷ []))) (sym reply)
+        (granted_holds m newest.layers newest kept holds txn k own told.few g (sym reply ∙ told.due) installed.1)

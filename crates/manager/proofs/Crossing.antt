@@ -29,6 +29,8 @@ use Rattle.manager.specs.contracts.past.Past as Past
 use Rattle.manager.proofs.past.Past.TheSendSync as past
 use Rattle.manager.specs.contracts.pin.Pin as Pin
 use Rattle.manager.specs.contracts.pin.Pin.TheInside as pin
+use Rattle.manager.specs.contracts.replaced.Replaced as Replaced
+use Rattle.manager.specs.contracts.replaced.Replaced.TheInside as replaced
 
 pub history_send : IsSend History.the_row
 history_send =
@@ -80,6 +82,13 @@ prepared_send =
     let a = grant_send in
     view_send _ _ _ _ _ (declared_send prepared.the_type
     (search (crosses, sendable) depth 20, (search (crosses, sendable, as_row_send) depth 30, tt)))
+
+pub replaced_send : IsSend Replaced.the_row
+replaced_send =
+    let a = entries_send in
+    let b = version_send in
+    view_send _ _ _ _ _ (declared_send replaced.the_type
+    (search (crosses, sendable, as_row_send) depth 30, (search (crosses, sendable, as_row_send) depth 30, tt)))
 
 pub kept_trees_send : IsSend KeptTrees.the_row
 kept_trees_send =

@@ -7,5 +7,6 @@ pub mod Checkpoint
 pub mod Restacked
 pub mod Passing
 pub mod Prepared
+pub mod Replaced
 pub mod Pinned
 pub mod Redone

@@ -32,6 +32,10 @@ version_in p = option_map (λ g. g.version) p.granted
 abbrev pub tree_in : Prepared → Option Tree
 tree_in p = option_map (λ g. g.tree) p.granted
 
+-- what is left where it was taken: its reply
+abbrev pub spent : Prepared → Prepared
+spent p = record { reply = p.reply; granted = None }
+
 -- whether a reply leaves the table
 abbrev pub LeavesTable : CommitReply → Type 0
 LeavesTable (Committed n) = ⊥

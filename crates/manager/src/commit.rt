@@ -6,11 +6,13 @@ ghost use Rattle.txn.specs.Txn.{IsTransaction};
 
 use crate::manager::Manager;
 use crate::passing::passed_through;
+use crate::replaced::{Released, Replaced, replace};
 use delta::DeltaTree;
 use layers::propagate;
 use merge::grown;
 use model::CommitReply;
 use std::marker::Model;
+use std::mem;
 use std::sync::Arc;
 use txn::{Txn, Version};
 use values::NoMemory;
@@ -21,9 +23,9 @@ pub const MAX_RECORDS: u64 = 1 << 62;
 /// What the commit of a transaction will do, made before anything changes.
 #[derive(Drop)]
 pub struct Prepared {
-    reply: CommitReply,
+    pub(crate) reply: CommitReply,
     /// Nothing where the reply leaves the table.
-    grant: Option<Grant>,
+    pub(crate) grant: Option<Grant>,
 }
 
 impl Model for Prepared {
@@ -38,8 +40,8 @@ impl Model for Prepared {
 #[derive(Drop)]
 pub(crate) struct Grant {
     /// The commit's tree, over the table that it found.
-    tree: DeltaTree,
-    version: Version,
+    pub(crate) tree: DeltaTree,
+    pub(crate) version: Version,
 }
 
 impl Model for Grant {
@@ -51,7 +53,7 @@ impl Model for Grant {
 }
 
 impl Prepared {
-    ghost use Rattle.manager.specs.Prepared.{tree_in, version_in};
+    ghost use Rattle.manager.specs.Prepared.{spent, tree_in, version_in};
 
     /// The reply that `install` will give. Takes no memory.
     pub fn reply(&self) -> CommitReply
@@ -78,6 +80,15 @@ impl Prepared {
             Some(grant) => Some(grant.tree()),
             None => None,
         }
+    }
+
+    /// Takes it out of its place, where the reply alone is left. Takes no memory.
+    pub fn take(&mut self) -> Prepared
+        ensures taken { result ≡ self.old }
+        ensures left { self.new ≡ spent self.old }
+    {
+        let reply = self.reply;
+        mem::replace(self, Prepared::refused(reply))
     }
 
     /// A reply that leaves the table.
@@ -116,6 +127,7 @@ impl Grant {
 impl Manager {
     ghost use Rattle.manager.specs.Managed.{IsOwn, IsDecided, is_too_old};
     ghost use Rattle.manager.specs.Prepared.{IsPassed, IsPrepared, IsGrant, MayGrant};
+    ghost use Rattle.manager.specs.Replaced.{released_by};
 
     /// Decides a transaction against the commits since it began, and adds its record: too old, in conflict with one of
     /// them, past the row limit, or committed. Its time grows with its own writes and with those commits, and with the
@@ -177,15 +189,27 @@ impl Manager {
         // The version that was prepared is the newest one.
         ensures layers { IfSome prepared.granted (λ granted. self.new.layers ≡ granted.layers) }
     {
-        let Prepared { reply, grant } = prepared;
-        self.history.enter(txn.into_record(reply));
-        self.made += 1;
-        if let Some(grant) = grant {
-            let Grant { tree, version } = grant;
-            self.kept.push_back(tree);
-            self.newest = version;
-        }
+        let (reply, _released) = self.install_into(txn, prepared);
         reply
+    }
+
+    /// Does what `install` does, and frees nothing: what it lets go of comes out. Takes no memory.
+    pub fn install_into(&mut self, txn: Txn, prepared: Prepared) -> (CommitReply, Released)
+        requires own { IsOwn self.old txn }
+        requires prepared { IsPrepared self.old txn prepared }
+        ensures decided { IsDecided self.old txn result.0 self.new }
+        ensures layers { IfSome prepared.granted (λ granted. self.new.layers ≡ granted.layers) }
+        ensures released { result.1 ≡ released_by self.old txn prepared }
+    {
+        let Prepared { reply, grant } = prepared;
+        let (links, rest) = txn.split(reply);
+        let entry = self.history.enter(links);
+        self.made += 1;
+        let Some(grant) = grant else {
+            return (reply, Released::new(entry, rest, Replaced::none()));
+        };
+        let replaced = replace(&mut self.newest, &mut self.kept, grant);
+        (reply, Released::new(entry, rest, replaced))
     }
 
     /// Whether the commit of a transaction comes too late.

@@ -1,15 +1,15 @@
 //! The history: each transaction that asked to commit, in the order of the commits.
-ghost use Rattle.std.specs.Prelude.{◌≡◌, ◌+◌, ◌<◌, ◌^◌, ◌++◌, [], length, IsTrue, MatchOption, false};
+ghost use Rattle.std.specs.Prelude.{◌≡◌, ◌+◌, ◌<◌, ◌^◌, ◌++◌, ◌∷◌, [], cond, length, IsTrue, MatchOption, false};
 ghost use Rattle.model.specs.History.{IsLegal};
 ghost use Rattle.manager.specs.History.{start_at};
 
 use crate::past::Past;
-use model::{ConflictRule, Record};
+use model::{CommitReply, ConflictRule, Record};
 use std::alloc::Global;
 use std::collections::LinkedList;
 use std::marker::Model;
 use std::snapshot::Snapshot;
-use txn::Version;
+use txn::{Txn, Version};
 
 /// The limits and the rule that a manager is opened with.
 #[derive(Clone, Copy)]
@@ -62,6 +62,7 @@ impl Model for History {
 impl History {
     ghost use Rattle.txn.specs.Version.{table_version};
     ghost use Rattle.manager.specs.History.{recorded_at};
+    ghost use Rattle.manager.specs.Managed.{record_of};
 
     /// A history that starts at the version, with no records. Takes no memory.
     pub(crate) fn new(alloc: Global, opening: &Version, rules: Rules) -> History
@@ -77,11 +78,13 @@ impl History {
         }
     }
 
-    /// Adds records that are legal after those before them. Takes no memory, and the same time however many there are.
-    pub(crate) fn enter(&mut self, links: LinkedList<Record>)
+    /// Adds records that are legal after those before them. Where it only counts them they come out again. Takes no memory, and the
+    /// same time however many there are.
+    pub(crate) fn enter(&mut self, links: LinkedList<Record>) -> LinkedList<Record>
         requires legal { IsLegal self.old.schema self.old.start (self.old.records ++ links) }
         requires few { length self.old.records + length links < 2 ^ 63 }
-        ensures { self.new ≡ record self.old { records = self.old.records ++ links } }
+        ensures entered { self.new ≡ record self.old { records = self.old.records ++ links } }
+        ensures left { result ≡ cond self.old.keeps [] links }
     {
         let mut links = links;
         self.all = self.all.and(&links);
@@ -89,6 +92,25 @@ impl History {
         if let Some(kept) = &mut self.kept {
             kept.append(&mut links).unwrap();
         }
+        links
+    }
+
+    /// Counts the record of one transaction more where none is kept, after which they are legal too. Takes no memory.
+    pub(crate) fn count(&mut self, txn: &Txn, reply: CommitReply)
+        requires counts { self.old.keeps ≡ false }
+        requires legal { IsLegal self.old.schema self.old.start (self.old.records ++ record_of txn.now reply ∷ []) }
+        requires few { length self.old.records + 1 < 2 ^ 63 }
+        ensures { self.new ≡ record self.old { records = self.old.records ++ record_of txn.now reply ∷ [] } }
+    {
+        self.all = self.all.and_one(txn, &reply);
+        self.count += 1;
+    }
+
+    /// Whether it keeps its records, or only counts them.
+    pub(crate) fn keeps(&self) -> bool
+        ensures { result ≡ self.now.keeps }
+    {
+        self.kept.is_some()
     }
 
     /// A history that starts at the version under the same rules, with no records. It keeps them where this one does.

@@ -24,6 +24,7 @@ mod past;
 mod pin;
 mod redo;
 mod repack;
+mod replaced;
 mod restack;
 
 pub use checkpoint::Rebuilt;
@@ -34,4 +35,5 @@ pub use fold::Folded;
 pub use history::History;
 pub use manager::Manager;
 pub use pin::Pin;
+pub use replaced::{Released, Replaced};
 pub use restack::Restacked;

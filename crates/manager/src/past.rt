@@ -1,11 +1,12 @@
 //! A list of records that clauses alone read.
-ghost use Rattle.std.specs.Prelude.{◌≡◌, List, [], ◌++◌};
+ghost use Rattle.std.specs.Prelude.{◌≡◌, List, [], ◌∷◌, ◌++◌};
 ghost use Rattle.std.specs.Borrow.{ftrue};
 ghost use Rattle.model.specs.History as seen;
 
-use model::Record;
+use model::{CommitReply, Record};
 use std::collections::LinkedList;
 use std::marker::Model;
+use txn::Txn;
 
 /// Records that are counted and not kept. It takes no bytes, and its calls do nothing at run time.
 #[derive(Drop)]
@@ -18,6 +19,8 @@ impl Model for Past {
 }
 
 impl Past {
+    ghost use Rattle.manager.specs.Managed.{record_of};
+
     /// No records.
     pub(crate) fn none() -> Past
         ensures { result.records ≡ [] }
@@ -28,6 +31,13 @@ impl Past {
     /// These records, and others behind them.
     pub(crate) fn and(&self, links: &LinkedList<Record>) -> Past
         ensures { result.records ≡ self.now.records ++ links.now }
+    {
+        Past {}
+    }
+
+    /// These records, and that of a transaction with the reply to its commit behind them.
+    pub(crate) fn and_one(&self, txn: &Txn, reply: &CommitReply) -> Past
+        ensures { result.records ≡ self.now.records ++ record_of txn.now reply.now ∷ [] }
     {
         Past {}
     }

@@ -25,6 +25,6 @@ pub use laws::marks_stand;
 pub use mark::Mark;
 pub use merge::{ReadTree, RowView, Stretch};
 pub use model::WriteReply;
-pub use parts::Parts;
+pub use parts::{Parts, Rest};
 pub use transaction::Txn;
 pub use version::Version;

@@ -1,4 +1,5 @@
 //! What a transaction comes to.
+use crate::version::Version;
 use delta::DeltaTree;
 use model::{Write, WriteReply};
 
@@ -12,4 +13,13 @@ pub struct Parts {
     pub tree: DeltaTree,
     /// Each with the reply that was due.
     pub writes: Vec<(Write, WriteReply)>,
+}
+
+/// What a transaction has that its record doesn't.
+#[derive(Drop)]
+pub struct Rest {
+    /// That it began over.
+    pub version: Version,
+    /// The canonical entries of the writes' effects over the version's table.
+    pub tree: DeltaTree,
 }

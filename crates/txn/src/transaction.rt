@@ -13,7 +13,7 @@ ghost use Rattle.txn.specs.declared.fault.WriteFault.TheVariants as write_fault;
 
 use crate::fault::WriteFault;
 use crate::mark::Mark;
-use crate::parts::Parts;
+use crate::parts::{Parts, Rest};
 use crate::slot::RecordSlot;
 use crate::version::Version;
 use crate::writes::{Found, FoundRow, edit, with_shared_row};
@@ -148,15 +148,27 @@ impl Txn {
         ensures entry { result ≡ record { client = self.client; begin = self.begin; writes = self.writes; reply = reply } ∷ [] }
         ensures lawful { IsTransaction self }
     {
+        let (entry, _rest) = self.split(reply);
+        entry
+    }
+
+    /// Its record, as `into_record` gives it, and the rest. Takes no memory, and frees none.
+    pub fn split(self, reply: CommitReply) -> (LinkedList<Record>, Rest)
+        ensures entry { result.0 ≡ record { client = self.client; begin = self.begin; writes = self.writes; reply = reply } ∷ [] }
+        ensures version { table_version result.1.version ≡ record { schema = self.schema; table = self.table; number = self.begin } }
+        ensures tree { result.1.tree ≡ tree_of self }
+        ensures lawful { IsTransaction self }
+    {
         let Txn {
             client,
             version,
             row_limit: _,
-            tree: _tree,
+            tree,
             writes,
             slot,
         } = self;
-        slot.with(Record::new(client, version.number(), writes, reply))
+        let entry = slot.with(Record::new(client, version.number(), writes, reply));
+        (entry, Rest { version, tree })
     }
 
     /// Inserts a row.
