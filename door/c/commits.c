@@ -33,7 +33,7 @@ static pdti_commit *take_waiting(pdt_store *store) {
 
 /* Under the lock. Whether the table has changed. */
 static bool make(pdt_store *store, pdti_commit *commit) {
-  commit->code = (int)pdtr_commit(&store->raw, &commit->txn->raw, &commit->number);
+  commit->code = (int)pdtr_commit(&store->raw, &commit->txn->raw, &commit->txn->ended, &commit->number);
   pdti_count(store, commit->code);
   return commit->code == PDT_OK;
 }

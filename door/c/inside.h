@@ -89,7 +89,8 @@ extern uint32_t pdtr_begin_at(handle *, uint32_t, handle *);
 extern uint64_t pdtr_begun(handle *);
 extern size_t pdtr_own_entries(handle *);
 extern void pdtr_abort(handle *);
-extern uint32_t pdtr_commit(handle *, handle *, uint64_t *);
+extern uint32_t pdtr_commit(handle *, handle *, handle *, uint64_t *);
+extern void pdtr_ended_close(handle *);
 extern uint32_t pdtr_insert(handle *, const int64_t *, size_t, const uint8_t *, size_t);
 extern uint32_t pdtr_delete(handle *, const int64_t *, size_t, const uint8_t *, size_t);
 extern uint32_t pdtr_set(handle *, const int64_t *, size_t, const uint8_t *, size_t, size_t, int64_t, const uint8_t *, size_t);
@@ -119,7 +120,7 @@ extern size_t pdtr_layer_len(handle *);
 extern uint32_t pdtr_entry(handle *, size_t, pdt_entry *, int64_t *, size_t, uint8_t *, size_t);
 
 extern uint32_t pdtr_prepare(handle *, handle *, uint64_t *, handle *);
-extern uint32_t pdtr_install(handle *, handle *, handle *, uint64_t *);
+extern uint32_t pdtr_install(handle *, handle *, handle *, handle *, uint64_t *);
 extern void pdtr_give_up(handle *);
 extern uint32_t pdtr_share(handle *, handle *);
 extern uint32_t pdtr_checkpoint_begin(handle *, handle *);
@@ -211,6 +212,8 @@ struct pdt_txn {
   uint64_t begun;   /* the number of the table that it sees */
   bool is_prepared; /* its commit is */
   handle decision;  /* of a prepared commit: the store's lock is held then. Nothing where it changes nothing */
+  handle part;      /* what a frame of its database's journal says of it */
+  handle ended;     /* once it is over: all that it had, and what its commit has replaced */
   pthread_t by;     /* the thread that prepared it, and holds the lock */
   pid_t process;    /* of that thread: a child of fork has a thread of the same name, and no lock */
 };
@@ -295,7 +298,10 @@ bool pdti_is_idle(pdt_txn *txn);
 /* Ends a transaction that leaves no record. */
 void pdti_end(pdt_txn *txn);
 
-/* Frees a transaction whose handle is empty. */
+/* Frees what the commit of a transaction has let go of, or has made in vain. Without the lock, so that others don't wait for it. */
+void pdti_let_go(pdt_txn *txn);
+
+/* Frees a transaction whose handle is empty, with what its commit has let go of. */
 void pdti_forget(pdt_txn *txn);
 
 /* A lock that tells the thread which has it so, when it asks again. */

@@ -16,18 +16,16 @@ enum { BATCH_ROOM = 1 << 24 };
 
 /* Puts what a prepared commit changes of its table after what is staged. */
 static int stage_part(pdt_database *database, pdt_txn *txn) {
-  handle part = {NULL};
   pdt_store *store = txn->store;
-  int code = (int)pdtr_part(&store->raw, &txn->raw, &txn->decision, store->table->number, &part);
+  int code = (int)pdtr_part(&store->raw, &txn->raw, &txn->decision, store->table->number, &txn->part);
   if (code) return code;
   buffer *pending = &database->pending;
-  size_t len = pdtr_image_len(&part, 0);
+  size_t len = pdtr_image_len(&txn->part, 0);
   if (len > UINT32_MAX - (database->staged - HEAD)) code = PDT_TOO_LONG;
   if (!code) code = pdti_reserve(pending, database->staged + len);
   if (!code) {
-    database->staged += pdtr_image_read(&part, 0, 0, pending->at + pending->len + database->staged, len);
+    database->staged += pdtr_image_read(&txn->part, 0, 0, pending->at + pending->len + database->staged, len);
   }
-  pdtr_image_close(&part);
   return code;
 }
 

@@ -158,8 +158,15 @@ void pdti_count(pdt_store *store, int code) {
   if (code == PDT_FULL) store->done.full++;
 }
 
+void pdti_let_go(pdt_txn *txn) {
+  if (txn->ended.at) pdtr_ended_close(&txn->ended);
+  if (txn->decision.at) pdtr_give_up(&txn->decision);
+  if (txn->part.at) pdtr_image_close(&txn->part);
+}
+
 void pdti_forget(pdt_txn *txn) {
   pdt_store *store = txn->store;
+  pdti_let_go(txn);
   free(txn);
   store->open--; /* the last touch, after all before it in every thread's eyes: the store may be closed from now on */
 }
@@ -205,7 +212,7 @@ static void prepared_here(pdt_txn *txn) {
 /* Ends a transaction whose commit was decided, and is refused. Under the store's lock. */
 static void end_refused(pdt_store *store, pdt_txn *txn, int code) {
   uint64_t number = 0;
-  pdtr_install(&store->raw, &txn->raw, &txn->decision, &number);
+  pdtr_install(&store->raw, &txn->raw, &txn->decision, &txn->ended, &number);
   pdti_count(store, code);
 }
 
@@ -239,7 +246,7 @@ pdt_code pdt_prepare(pdt_txn *txn, uint64_t *commits) {
     if (store->database) number = pdti_newest(store->database);
   }
   pdti_leave(store);
-  if (is_open) return code;
+  if (is_open) return pdti_let_go(txn), code;
   if (commits) *commits = number;
   pdti_forget(txn);
   return code;
@@ -259,7 +266,7 @@ pdt_code pdt_install(pdt_txn *txn) {
   }
   if (store->database) return pdti_install_in(store->database, txn);
   uint64_t number = 0;
-  int code = (int)pdtr_install(&store->raw, &txn->raw, &txn->decision, &number);
+  int code = (int)pdtr_install(&store->raw, &txn->raw, &txn->decision, &txn->ended, &number);
   pdti_count(store, code);
   replaced before = pdti_refresh(store);
   pdti_leave(store);
@@ -272,9 +279,9 @@ pdt_code pdt_give_up(pdt_txn *txn) {
   if (!is_prepared_here(txn)) return PDT_MISUSE;
   txn->is_prepared = false;
   if (!txn->decision.at) return PDT_OK;
-  pdtr_give_up(&txn->decision);
   if (txn->store->database) pdti_unstage(txn->store->database);
   pdti_leave(txn->store);
+  pdti_let_go(txn);
   return PDT_OK;
 }
 

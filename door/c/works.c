@@ -11,16 +11,14 @@ typedef struct {
   replaced before;
 } turned;
 
-/* Decides each, or none: *refused is the one whose decision isn't to commit. Under the lock. */
+/* Decides each up to one whose decision isn't to commit: that is *refused. Under the lock. */
 static int prepare_all(pdt_txn *const *txns, size_t count, size_t *refused) {
   for (size_t i = 0; i < count; i++) {
     uint64_t number;
     pdt_txn *txn = txns[i];
     int code = (int)pdtr_prepare(&txn->store->raw, &txn->raw, &number, &txn->decision);
-    if (!code) continue;
-    for (size_t k = 0; k < i; k++) pdtr_give_up(&txns[k]->decision);
     *refused = i;
-    return code;
+    if (code) return code;
   }
   return PDT_OK;
 }
@@ -31,7 +29,7 @@ static uint64_t install_all(pdt_database *database, pdt_txn *const *txns, size_t
   for (size_t i = 0; i < count; i++) {
     pdt_store *store = txns[i]->store;
     uint64_t local = 0;
-    pdti_count(store, (int)pdtr_install(&store->raw, &txns[i]->raw, &txns[i]->decision, &local));
+    pdti_count(store, (int)pdtr_install(&store->raw, &txns[i]->raw, &txns[i]->decision, &txns[i]->ended, &local));
     pdti_number(store, local, number);
     tables[i].made.at = NULL;
     (void)pdtr_pin(&store->raw, &tables[i].made); /* nothing, where malloc refuses it */
@@ -66,19 +64,17 @@ static int commit_all(pdt_database *database, pdt_txn *const *txns, size_t count
   bool is_decided = !code;
   if (!code) code = prepare_all(txns, count, &refused);
   bool is_refused = is_decided && code && code != PDT_NOMEM;
-  if (!code) {
-    code = pdti_stage(database, txns, count);
-    for (size_t i = 0; i < count && code; i++) pdtr_give_up(&txns[i]->decision);
-  }
+  if (!code) code = pdti_stage(database, txns, count);
   if (is_refused) {
     pdt_store *store = txns[refused]->store;
     uint64_t local = 0;
-    pdtr_install(&store->raw, &txns[refused]->raw, &txns[refused]->decision, &local);
+    pdtr_install(&store->raw, &txns[refused]->raw, &txns[refused]->decision, &txns[refused]->ended, &local);
     pdti_count(store, code);
     *number = database->newest;
   }
   if (!code) *number = install_all(database, txns, count, tables);
   pdti_leave(txns[0]->store);
+  for (size_t i = 0; i < count; i++) pdti_let_go(txns[i]);
   if (!code) {
     for (size_t i = 0; i < count; i++) pdti_drop(tables[i].before);
     code = wait_after(database, *number);
@@ -117,11 +113,7 @@ int pdti_commit_in(pdt_database *database, pdt_txn *txn, uint64_t *commits) {
 
 int pdti_stage_one(pdt_database *database, pdt_txn *txn, uint64_t *number) {
   int code = pdti_stage(database, &txn, 1);
-  if (code) {
-    pdtr_give_up(&txn->decision);
-  } else {
-    *number = database->newest + 1;
-  }
+  if (!code) *number = database->newest + 1;
   return code;
 }
 

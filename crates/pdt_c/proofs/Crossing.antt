@@ -25,9 +25,11 @@ use Rattle.manager.specs.contracts.commit.Prepared as Prepared
 use Rattle.manager.specs.contracts.cut.KeptTrees as KeptTrees
 use Rattle.manager.specs.contracts.manager.Manager as Manager
 use Rattle.manager.specs.contracts.pin.Pin as Pin
-use Rattle.manager.proofs.Crossing.{kept_trees_send, manager_send, pin_send, prepared_send}
+use Rattle.manager.specs.contracts.replaced.Replaced as Replaced
+use Rattle.manager.proofs.Crossing.{kept_trees_send, manager_send, pin_send, prepared_send, replaced_send}
 use Rattle.pdt_c.specs.Held.{owns_at}
 use Rattle.pdt_c.specs.contracts.handles.decision.Decision as Decision
+use Rattle.pdt_c.specs.contracts.handles.ended.Ended as Ended
 use Rattle.pdt_c.specs.contracts.handles.image.Columns as Columns
 use Rattle.pdt_c.specs.contracts.handles.image.Image as Image
 use Rattle.pdt_c.specs.contracts.handles.layer.Layer as Layer
@@ -61,7 +63,10 @@ open_txn_send : IsSend OpenTxn.the_row
 open_txn_send =
     view_send _ _ _ _ _ (declared_send open_txn.the_type (
       as_row_send Txn.the_field txn_send,
-      (as_row_send (Vec.the_field Mark.the_row Global.the_row heap.ghosts) (Vec-send Mark.the_row mark_send), tt),
+      (
+        as_row_send (Vec.the_field Mark.the_row Global.the_row heap.ghosts) (Vec-send Mark.the_row mark_send),
+        (as_row_send Replaced.the_field replaced_send, tt),
+      ),
     ))
 
 entry_send : IsSend SharedEntry.the_row
@@ -117,6 +122,12 @@ transaction_send =
     let all : AllSend (fields Transaction.the_type) = (search sendable, (search (crosses, sendable) depth 20, tt)) in
     owning_send Transaction.the_type all (λ d. held_keyless OpenTxn.the_row open_txn_send d.alloc d.at d.value)
     (λ k. quiet (to Transaction.the_type) (exits_of k (fields Transaction.the_type)) ((struct_send (shape Transaction.the_type) all).leaving k))
+
+pub ended_send : IsSend Ended.the_row
+ended_send =
+    let all : AllSend (fields Ended.the_type) = (search sendable, (search (crosses, sendable) depth 20, tt)) in
+    owning_send Ended.the_type all (λ d. held_keyless OpenTxn.the_row open_txn_send d.alloc d.at d.value)
+    (λ k. quiet (to Ended.the_type) (exits_of k (fields Ended.the_type)) ((struct_send (shape Ended.the_type) all).leaving k))
 
 pub layer_send : IsSend Layer.the_row
 layer_send =

@@ -1,7 +1,8 @@
 -- An open transaction, and the marks to which it can go back.
-use Rattle.std.specs.Prelude.{◌≡◌, ℕ, suc, ◌≤◌, List, [], ◌∷◌, ◌++◌, All, Some, slice_get, take}
+use Rattle.std.specs.Prelude.{◌≡◌, ℕ, suc, ◌≤◌, List, [], ◌∷◌, ◌++◌, All, Option, Some, cond, slice_get, take}
 use Rattle.txn.specs.Txn.{Transaction}
 use Rattle.txn.specs.Marks.{Marked, mark_of, with_first, IsMark}
+use Rattle.manager.specs.Managed.{Managed}
 
 pub record Opened : Type 0 where
   pub txn : Transaction
@@ -18,6 +19,10 @@ AreMarks txn [] = Unit {0}
 AreMarks txn (mark ∷ marks) = IsMark mark txn × All (λ (later : Marked). mark.count ≤ later.count) marks × AreMarks txn marks
 
 -- ---- what a call makes of it
+
+-- what is in the handle of a transaction that is over: all of it, where its history only counts it
+abbrev pub handed : Managed → Opened → Option Opened → Option Opened
+handed m o before = cond m.keeps before (Some o)
 
 abbrev pub with_mark : Opened → Opened
 with_mark o = record o { marks = o.marks ++ mark_of o.txn ∷ [] }

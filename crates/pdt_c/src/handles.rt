@@ -1,6 +1,7 @@
 //! What C keeps: each handle is a struct of one pointer.
 
 pub(crate) mod decision;
+pub(crate) mod ended;
 pub(crate) mod held;
 pub(crate) mod image;
 pub(crate) mod layer;

@@ -10,15 +10,16 @@
 static int failures;
 static void is(const char *what, long long wanted, long long found) {
   if (wanted == found) return;
-  failures++;
+  __atomic_add_fetch(&failures, 1, __ATOMIC_RELAXED);
   fprintf(stderr, "%s: wanted %lld, found %lld\n", what, wanted, found);
 }
 
 /* ---- the locks: a store's is one that is tried before it is waited for; the others are those of begins and of pins */
 
-static int holds, takes;  /* how many locks of stores are held, and how often one was taken */
-static int shorts;        /* how many of the others are held */
+static __thread int holds, takes; /* how many locks of stores this thread holds, and how often it took one */
+static __thread int shorts;       /* how many of the others it holds */
 static int kept;          /* how many of the locks of stores a prepared commit of this thread keeps */
+static bool is_of_files;  /* a database is at work, which has further locks */
 static pdt_store *ending; /* of a checkpoint that ends: it counts until the lock is taken, and keeps its store from closing */
 
 enum { STORES = 16 };
@@ -29,6 +30,9 @@ static int place_of(const pthread_mutex_t *lock) {
   return at;
 }
 static bool is_stores(const pthread_mutex_t *lock) { return place_of(lock) < STORES; }
+static void is_of_lock(const char *what, long long wanted, long long found) {
+  if (!is_of_files) is(what, wanted, found);
+}
 
 int __real_pthread_mutex_trylock(pthread_mutex_t *);
 int __real_pthread_mutex_lock(pthread_mutex_t *);
@@ -38,7 +42,7 @@ int __wrap_pthread_mutex_trylock(pthread_mutex_t *lock) {
   pdt_store *store = ending;
   ending = NULL;
   if (store && pdt_close(store) != PDT_MISUSE) fprintf(stderr, "a checkpoint ends before the lock is taken\n"), exit(1);
-  is("no other lock is held before a store's", 0, shorts);
+  is_of_lock("no other lock is held before a store's", 0, shorts);
   if (!is_stores(lock)) stores[place_of(NULL)] = lock;
   int bad = __real_pthread_mutex_trylock(lock);
   if (!bad) holds++, takes++;
@@ -49,7 +53,7 @@ int __wrap_pthread_mutex_lock(pthread_mutex_t *lock) {
   int bad = __real_pthread_mutex_lock(lock);
   if (bad) return bad;
   if (of_store) holds++, takes++;
-  else is("one of the others at a time", 1, ++shorts);
+  else is_of_lock("one of the others at a time", 1, ++shorts);
   return 0;
 }
 int __wrap_pthread_mutex_unlock(pthread_mutex_t *lock) {
@@ -71,8 +75,8 @@ int __wrap_pthread_mutex_destroy(pthread_mutex_t *lock) {
 #define WRAPPED(lock, other, result, name, params, args) \
   result __real_##name params;                           \
   result __wrap_##name params {                          \
-    is(#name " and the lock", lock, holds - kept);       \
-    is(#name " and the other lock", other, shorts);      \
+    is_of_lock(#name " and the lock", lock, holds - kept);  \
+    is_of_lock(#name " and the other lock", other, shorts); \
     return __real_##name args;                           \
   }
 WITH_LOCK(uint64_t, pdtr_commits, (void *s), (s))
@@ -86,13 +90,15 @@ WITH_LOCK(uint32_t, pdtr_share, (void *s, void *v), (s, v))
 WITH_LOCK(uint32_t, pdtr_checkpoint_begin, (void *s, void *v), (s, v))
 WITH_LOCK(uint32_t, pdtr_restack, (void *s, void *t), (s, t))
 WITH_LOCK(uint32_t, pdtr_begin, (void *s, uint32_t c, void *t), (s, c, t))
-WITH_LOCK(uint32_t, pdtr_commit, (void *s, void *t, uint64_t *n), (s, t, n))
+WITH_LOCK(uint32_t, pdtr_commit, (void *s, void *t, void *e, uint64_t *n), (s, t, e, n))
 WITH_LOCK(uint32_t, pdtr_prepare, (void *s, void *t, uint64_t *n, void *d), (s, t, n, d))
 WITH_LOCK(uint32_t, pdtr_read_layer, (void *s, void *l), (s, l))
 WITH_LOCK(uint32_t, pdtr_write_layer, (void *s, void *l), (s, l))
 WITH_LOCK(uint32_t, pdtr_changes, (void *s, uint64_t n, void *l), (s, n, l))
 WITH_LOCK(size_t, pdtr_kept, (void *s), (s))
 WITH_LOCK(size_t, pdtr_change_entries, (void *s, uint64_t n), (s, n))
+WITHOUT_LOCK(void, pdtr_ended_close, (void *e), (e))
+WITHOUT_LOCK(void, pdtr_give_up, (void *d), (d))
 WITHOUT_LOCK(uint32_t, pdtr_pack, (void *v), (v))
 WITHOUT_LOCK(uint32_t, pdtr_room, (size_t n, void *t), (n, t))
 WITHOUT_LOCK(void, pdtr_trees_close, (void *t), (t))
@@ -103,17 +109,12 @@ WITHOUT_LOCK(void, pdtr_image_close, (void *i), (i))
 WITHOUT_LOCK(void, pdtr_table_close, (void *t), (t))
 WITHSHORT_LOCK(uint32_t, pdtr_pin_again, (void *v, void *w), (v, w))
 
-/* What was prepared is done or given up under the lock that was kept. */
-uint32_t __real_pdtr_install(void *, void *, void *, uint64_t *);
-uint32_t __wrap_pdtr_install(void *s, void *t, void *d, uint64_t *n) {
+/* What was prepared is done under the lock that was kept. */
+uint32_t __real_pdtr_install(void *, void *, void *, void *, uint64_t *);
+uint32_t __wrap_pdtr_install(void *s, void *t, void *d, void *e, uint64_t *n) {
   is("an install and the lock", 1, holds);
   is("an install and the other lock", 0, shorts);
-  return __real_pdtr_install(s, t, d, n);
-}
-void __real_pdtr_give_up(void *);
-void __wrap_pdtr_give_up(void *d) {
-  is("giving up and the lock", 1, holds);
-  __real_pdtr_give_up(d);
+  return __real_pdtr_install(s, t, d, e, n);
 }
 
 /* A version is taken of a store under its lock, but while the store is opened: nobody else has it then. */
@@ -122,8 +123,8 @@ static int refused; /* how often in turn malloc refuses it */
 static int shared;  /* how often a version was taken, to be shared with begins */
 uint32_t __real_pdtr_pin(void *, void *);
 uint32_t __wrap_pdtr_pin(void *s, void *v) {
-  is("a version and the lock", !opening, holds);
-  is("a version and the other lock", 0, shorts);
+  is_of_lock("a version and the lock", !opening, holds);
+  is_of_lock("a version and the other lock", 0, shorts);
   shared++;
   if (refused) return refused--, PDT_NOMEM;
   return __real_pdtr_pin(s, v);
@@ -144,8 +145,8 @@ static int still_open(void) {
 static bool begins; /* a transaction counts as open before it begins, too */
 uint32_t __real_pdtr_begin_at(void *, uint32_t, void *);
 uint32_t __wrap_pdtr_begin_at(void *v, uint32_t c, void *t) {
-  is("a begin and the lock", 0, holds - kept);
-  is("a begin and the other lock", 1, shorts);
+  is_of_lock("a begin and the lock", 0, holds - kept);
+  is_of_lock("a begin and the other lock", 1, shorts);
   if (begins) {
     shorts--; /* as if it weren't held */
     begins = false;
@@ -157,8 +158,8 @@ uint32_t __wrap_pdtr_begin_at(void *v, uint32_t c, void *t) {
 static pdt_store *pinned; /* it can't be closed until all that its pin has is freed */
 void __real_pdtr_unpin(void *);
 void __wrap_pdtr_unpin(void *v) {
-  is("a version's end and the lock", 0, holds - kept);
-  is("a version's end and the other lock", 0, shorts);
+  is_of_lock("a version's end and the lock", 0, holds - kept);
+  is_of_lock("a version's end and the other lock", 0, shorts);
   if (pinned) is("pinned before it is freed", PDT_MISUSE, pdt_close(pinned));
   __real_pdtr_unpin(v);
   if (pinned) is("pinned after that", PDT_MISUSE, pdt_close(pinned));
@@ -174,8 +175,8 @@ void __wrap_pdtr_abort(void *txn) {
 void __real_free(void *);
 static long frees, frees_with_lock;
 void __wrap_free(void *at) {
-  frees += at != NULL;
-  frees_with_lock += at && (holds || shorts);
+  __atomic_add_fetch(&frees, at != NULL, __ATOMIC_RELAXED);
+  __atomic_add_fetch(&frees_with_lock, at && (holds || shorts), __ATOMIC_RELAXED);
   if (at && at == freed_last && watched) is("open before it is freed", 1, still_open());
   __real_free(at);
 }
@@ -475,6 +476,126 @@ static void cuts(void) {
   is("close", PDT_OK, pdt_close(store));
 }
 
+/* A commit frees nothing with the lock: what it lets go of is freed after it, by the thread whose commit it is. The Write-PDT has so many
+   entries that a commit of one edits it, and builds no tree of which it frees the room; and the rows that are set aren't its own, so
+   that no row of it is copied. */
+enum { ENTRIES = 300, WAITERS = 6 };
+static void inserts(pdt_store *store, int64_t from) {
+  pdt_txn *txn = begun(store);
+  for (int64_t i = 0; i < ENTRIES; i++) is("insert", PDT_OK, pdt_insert(txn, (int64_t[]){from + i, 3}, "Eve", 3));
+  is("commit", PDT_OK, pdt_commit(txn, NULL));
+}
+static void fill(pdt_store *store) {
+  inserts(store, 100);
+  is("fold", PDT_OK, pdt_fold(store));
+  inserts(store, 1000);
+}
+static pdt_txn *setting_at(pdt_store *store, int64_t key) {
+  pdt_txn *txn = begun(store);
+  is("set", PDT_OK, pdt_set(txn, &key, NULL, 0, 1, 4, "Anna"));
+  return txn;
+}
+
+/* Makes a call, which frees something, or nothing, and nothing of it with the lock. */
+#define FREES(some, wanted, call)                                \
+  do {                                                           \
+    frees = frees_with_lock = 0;                                 \
+    is(#call, wanted, call);                                     \
+    is(#call " frees something with the lock", 0, frees_with_lock); \
+    is(#call " frees something", some, frees > 0);               \
+  } while (0)
+static void lets_go(void) {
+  pdt_store *store = opened(2); /* the trees of two commits are kept: the third one lets the first one's go */
+  fill(store);
+  for (int64_t i = 0; i < 4; i++) FREES(1, PDT_OK, pdt_commit(setting_at(store, 100 + i), NULL));
+  for (int64_t i = 0; i < 4; i++) {
+    pdt_txn *txn = setting_at(store, 110 + i);
+    FREES(0, PDT_OK, pdt_prepare(txn, NULL));
+    FREES(1, PDT_OK, pdt_install(txn));
+  }
+  pdt_txn *alone = setting_at(store, 120); /* the last one over its version, once that is folded */
+  is("fold", PDT_OK, pdt_fold(store));
+  inserts(store, 2000);
+  FREES(1, PDT_OK, pdt_commit(alone, NULL));
+  refused = 1; /* nobody but the store has this version: the next commit lets it go */
+  FREES(1, PDT_OK, pdt_commit(setting_at(store, 130), NULL));
+  is("it was refused", 0, refused);
+  FREES(1, PDT_OK, pdt_commit(setting_at(store, 131), NULL));
+  pdt_txn *late = setting_at(store, 140), *later = setting_at(store, 140), *given = setting_at(store, 141);
+  is("commit", PDT_OK, pdt_commit(setting_at(store, 140), NULL));
+  FREES(1, PDT_CONFLICT, pdt_commit(late, NULL));
+  FREES(1, PDT_CONFLICT, pdt_prepare(later, NULL));
+  is("prepare", PDT_OK, pdt_prepare(given, NULL));
+  FREES(1, PDT_OK, pdt_give_up(given));
+  FREES(1, PDT_OK, pdt_commit(given, NULL));
+  is("close", PDT_OK, pdt_close(store));
+}
+
+/* Those that wait are made by whoever gets the lock, and each frees its own. */
+static void *commits_one(void *txn) { return commits(txn), NULL; }
+static void waiters_let_go(void) {
+  pdt_store *store = opened(WAITERS + 1);
+  pdt_txn *holder;
+  pthread_t threads[WAITERS];
+  pdt_txn *txns[WAITERS];
+  pdt_counts counts = {.size = sizeof counts};
+  fill(store);
+  holder = setting_at(store, 100);
+  for (int i = 0; i < WAITERS; i++) txns[i] = setting_at(store, 110 + i);
+  is("prepare", PDT_OK, pdt_prepare(holder, NULL));
+  frees = frees_with_lock = 0;
+  for (int i = 0; i < WAITERS; i++) is("a thread", 0, pthread_create(&threads[i], NULL, commits_one, txns[i]));
+  do is("count", PDT_OK, pdt_count(store, &counts));
+  while (counts.waits < WAITERS);
+  is("give up", PDT_OK, pdt_give_up(holder));
+  for (int i = 0; i < WAITERS; i++) pthread_join(threads[i], NULL);
+  is("commits of those that wait free something with the lock", 0, frees_with_lock);
+  is("and something", 1, frees > WAITERS);
+  pdt_abort(holder);
+  is("close", PDT_OK, pdt_close(store));
+}
+
+/* And one of several tables, whose frame is behind the others then. */
+static pdt_txn *working_on(pdt_work *work, pdt_store *store, int64_t key) {
+  pdt_txn *txn = NULL;
+  is("work on", PDT_OK, pdt_work_on(work, store, &txn));
+  is("set", PDT_OK, pdt_set(txn, &key, NULL, 0, 1, 4, "Anna"));
+  return txn;
+}
+static pdt_work *working(pdt_database *database, pdt_store *const tables[2], int64_t key) {
+  pdt_work *work = NULL;
+  is("work", PDT_OK, pdt_work_begin(database, &work));
+  for (int i = 0; i < 2; i++) working_on(work, tables[i], key);
+  return work;
+}
+static void works_let_go(const char *room) {
+  pdt_database_options options = {.size = sizeof options, .sync = PDT_SYNC_OFF, .no_upkeep = true};
+  pdt_database *database = NULL;
+  pdt_store *tables[2] = {NULL, NULL};
+  char folder[320];
+  snprintf(folder, sizeof folder, "%s/database", room);
+  is_of_files = opening = true;
+  is("open", PDT_OK, pdt_database_open(folder, &options, &database, NULL));
+  is("create", PDT_OK, pdt_table_create_csv(database, "one", csv, sizeof csv - 1, NULL, NULL, &tables[0]));
+  is("create", PDT_OK, pdt_table_create_csv(database, "two", csv, sizeof csv - 1, NULL, NULL, &tables[1]));
+  opening = false;
+  holds = shorts = 0; /* its lock was taken before it was known for a store's */
+  for (int i = 0; i < 2; i++) fill(tables[i]);
+  for (int64_t i = 0; i < 4; i++) {
+    pdt_txn *txn = setting_at(tables[0], 100 + i);
+    FREES(1, PDT_OK, pdt_commit(txn, NULL));
+    txn = setting_at(tables[1], 100 + i);
+    FREES(0, PDT_OK, pdt_prepare(txn, NULL));
+    FREES(1, PDT_OK, pdt_install(txn));
+    pdt_work *work = working(database, tables, 110 + i), *late = working(database, tables, 110 + i);
+    FREES(1, PDT_OK, pdt_work_commit(work, NULL));
+    FREES(1, PDT_CONFLICT, pdt_work_commit(late, NULL));
+  }
+  is("close", PDT_OK, pdt_database_close(database));
+  is_of_files = false;
+  holds = shorts = 0; /* and is known no more before it is given back */
+}
+
 /* A fold packs the Read-PDT without the lock, and takes it once more to install what it packed. Where malloc refuses a version to
    pack, nothing is packed, and begins share the folded version all the same. */
 static uint64_t packs_of(pdt_store *store) {
@@ -513,6 +634,9 @@ int main(int argc, char **argv) {
   counted();
   unshared();
   cuts();
+  lets_go();
+  waiters_let_go();
+  works_let_go(argv[1]);
   packs();
   is("locks that are held", 0, holds + shorts);
   return failures ? 1 : 0;

@@ -1,17 +1,21 @@
 //! A commit in two parts: it is decided, and then done or given up.
-ghost use Rattle.std.specs.Prelude.{◌≡◌, ◌≢◌, IsSome, IfSome, Some, None};
+ghost use Rattle.std.specs.Prelude.{◌≡◌, ◌≢◌, IsSome, IfSome, None};
+ghost use Rattle.std.specs.Option.{option_map};
 ghost use Rattle.model.specs.declared.write.CommitReply.{CommitReply};
 ghost use Rattle.manager.specs.Managed.{IsDecided, IsOwn, reply_due};
-ghost use Rattle.manager.specs.Prepared.{IsPrepared};
+ghost use Rattle.manager.specs.Prepared.{IsPrepared, spent};
+ghost use Rattle.pdt_c.specs.Marks.{handed};
 ghost use Rattle.pdt_c.specs.Told.{told};
 ghost use Rattle.pdt_c.specs.declared.codes.TheConstants.{NO_MEMORY};
 
+use crate::calls::commits::install;
 use crate::codes::{NO_MEMORY, code_of_commit};
 use crate::handles::decision::Decision;
+use crate::handles::ended::Ended;
 use crate::handles::store::Store;
 use crate::handles::transaction::{OpenTxn, Transaction};
 use crate::handles::{decision, store, transaction};
-use manager::{Manager, Prepared};
+use manager::Manager;
 use std::alloc::Global;
 use values::NoMemory;
 
@@ -74,14 +78,16 @@ fn prepare(
     }
 }
 
-/// Does what was decided for this transaction while the manager is as it was, and tells the reply. The transaction is over.
-/// Takes no memory.
+/// Does what was decided for this transaction while the manager is as it was, and tells the reply. The transaction is over, and goes
+/// into a handle that holds nothing, with what is replaced: none of it is freed before that is closed. Of the decision the reply alone
+/// is left. Takes no memory.
 #[unsafe(no_mangle)]
 pub extern "C" fn pdtr_install(
     alloc: Global,
     store: &mut Store,
     txn: &mut Transaction,
     decision: &mut Decision,
+    ended: &mut Ended,
     number: &mut u64,
 ) -> u32
     requires store { IsSome store.old.value }
@@ -94,33 +100,23 @@ pub extern "C" fn pdtr_install(
     // It does what the commit would have done, and tells what the commit would have told.
     ensures decided { IfSome store.old.value (λ m. IfSome txn.old.value (λ t. IfSome store.new.value (λ n.
         (reply : CommitReply) × IsDecided m t.txn reply n × (told reply ≡ (result, number.new))))) }
-    ensures ended { (txn.new.value ≡ None) × (decision.new.value ≡ None) }
+    ensures ended { txn.new.value ≡ None }
+    ensures spent { decision.new.value ≡ option_map spent decision.old.value }
+    ensures handed { IfSome store.old.value (λ m. IfSome txn.old.value (λ t. ended.new.value ≡ handed m t ended.old.value)) }
 {
     let mut manager = store::take(alloc, store);
     let open = transaction::take(alloc, txn);
-    let prepared = decision::take(alloc, decision);
-    let code = install(&mut manager, open, prepared, number);
+    let mut decided = decision::take(alloc, decision);
+    let reply = install(&mut manager, open, decided.take(), ended);
+    decision::put(decision, decided);
     store::put(store, manager);
-    code
-}
-
-fn install(
-    manager: &mut Manager,
-    begun: Box<OpenTxn>,
-    prepared: Box<Prepared>,
-    number: &mut u64,
-) -> u32
-    requires own { IsOwn manager.old begun.value.txn }
-    requires prepared { IsPrepared manager.old begun.value.txn prepared.value }
-    ensures { (reply : CommitReply) × IsDecided manager.old begun.value.txn reply manager.new × (told reply ≡ (result, number.new)) }
-{
-    let reply = manager.install(Box::into_inner(begun).into_txn(), Box::into_inner(prepared));
     let (code, newest) = code_of_commit(reply);
     *number = newest;
     code
 }
 
-/// Lets go of what was decided. It was of no effect yet: the manager and the transaction are as they were.
+/// Lets go of what was decided, or of what is left of it. What was of no effect yet has none: the manager and the transaction are as
+/// they were.
 #[unsafe(no_mangle)]
 pub extern "C" fn pdtr_give_up(alloc: Global, decision: &mut Decision)
     requires { IsSome decision.old.value }

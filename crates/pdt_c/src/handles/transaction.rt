@@ -6,16 +6,19 @@ ghost use Rattle.pdt_c.specs.declared.codes.TheConstants.{DONE};
 
 use crate::codes::{DONE, NO_MEMORY};
 use crate::handles::held::Held;
+use manager::Replaced;
 use std::alloc::Global;
 use std::marker::Model;
 use std::mem;
 use txn::{Mark, Txn};
 
-/// An open transaction with its marks, which is let go by an abort.
+/// An open transaction with its marks, which is let go by an abort. Once it is over, it has what its commit replaced too.
 pub(crate) struct OpenTxn {
     pub(crate) txn: Txn,
     /// The oldest first.
     pub(crate) marks: Vec<Mark>,
+    /// Nothing while it is open.
+    replaced: Replaced,
 }
 
 impl Model for OpenTxn {
@@ -36,6 +39,7 @@ impl OpenTxn {
         OpenTxn {
             txn,
             marks: Vec::new(alloc),
+            replaced: Replaced::none(),
         }
     }
 
@@ -43,14 +47,29 @@ impl OpenTxn {
     pub(crate) fn into_txn(self) -> Txn
         ensures { result ≡ self.txn }
     {
-        let Self { txn, marks: _marks } = self;
+        let Self {
+            txn,
+            marks: _marks,
+            replaced: _replaced,
+        } = self;
         txn
+    }
+
+    /// Keeps what its commit has replaced, until it is let go itself.
+    pub(crate) fn keep(&mut self, replaced: Replaced)
+        ensures { self.new ≡ self.old }
+    {
+        self.replaced = replaced;
     }
 }
 
 impl Drop for OpenTxn {
     fn drop(self) {
-        let Self { txn, marks: _marks } = self;
+        let Self {
+            txn,
+            marks: _marks,
+            replaced: _replaced,
+        } = self;
         txn.abort();
     }
 }
