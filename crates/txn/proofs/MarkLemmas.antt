@@ -12,6 +12,7 @@ use Rattle.txn.specs.Txn.{Transaction, asked_of, tree_of, IsTransaction, IsAnswe
 use Rattle.txn.specs.Marks.{Marked, mark_of, with_first, IsMark, GoesOn, MarksStand}
 use Rattle.txn.proofs.TxnLemmas.{is_true}
 use Rattle.delta.proofs.CallerLemmas.{all_take}
+use Rattle.std.proofs.lemmas.Grind.{common_steps}
 
 -- the replies to the first writes are the first replies
 replies_to-take : (key_cols limit : ℕ) (t : Table) (n : ℕ) (x : Effects) (writes : List Write)
@@ -49,27 +50,16 @@ with_writes txn writes = record txn { writes = writes }
 
 -- a mark that is made is one of its transaction
 pub made_IsMark : (txn : Transaction) → IsMark (mark_of txn) txn
-made_IsMark txn = record {
-  within = omega arith;
-  tree_is = ap (λ ws. tree_of (with_writes txn ws)) (sym (take_all (length txn.writes) txn.writes (omega arith)));
-}
+made_IsMark txn = grind (arith, common_steps)
 
 -- it stays one where further writes follow
 pub written_IsMark : (mark : Marked) (old new : Transaction) → IsMark mark old → GoesOn old new → IsMark mark new
-written_IsMark mark old new m g = subst (IsMark mark) (sym g.new_is) (record {
-  within = omega (arith, m.within, length-append old.writes g.later);
-  tree_is = m.tree_is ∙ ap (λ ws. tree_of (with_writes old ws)) (sym (take-append-le mark.count old.writes g.later m.within));
-})
+written_IsMark mark old new m g = grind (arith, common_steps)
 
 -- and where the transaction goes back to no fewer writes than the mark has
 pub gone_back_IsMark : (mark : Marked) (txn : Transaction) (count : ℕ) → IsMark mark txn → mark.count ≤ count
     → IsMark mark (with_first count txn)
-gone_back_IsMark mark txn count m le = record {
-  within = fits;
-  tree_is = m.tree_is ∙ ap (λ ws. tree_of (with_writes txn ws)) (sym (take-take mark.count count txn.writes le));
-} where
-  fits : mark.count ≤ length (take count txn.writes)
-  fits = omega (arith, m.within, le, length-take count txn.writes)
+gone_back_IsMark mark txn count m le = grind (arith, common_steps)
 
 -- an answered write goes on
 pub answered_GoesOn : (old new : Transaction) (write : Write) (reply : WriteReply) → IsAnswered old write reply new → GoesOn old new
@@ -88,8 +78,4 @@ marks_stand = record { made = made_IsMark; written = written_IsMark; gone_back =
 pub back_kept : (txn self : Transaction) (view : txn ≡ self) (h : IsTransaction txn) (mark args : Marked) (same : mark ≡ args)
     → IsMark args self → (writes : List (Write × WriteReply)) → writes ≡ take mark.count txn.writes
     → IsTransaction (with_writes txn writes) × (mark.tree ≡ tree_of (with_writes txn writes))
-back_kept txn self view h mark args same m writes items =
-    let tree : mark.tree ≡ tree_of (with_first mark.count txn) =
-    ap (λ (x : Marked). x.tree) same ∙ m.tree_is ∙ (λ i. tree_of (with_first ((sym same) i).count ((sym view) i))) in
-    subst (λ (ws : List (Write × WriteReply)). IsTransaction (with_writes txn ws) × (mark.tree ≡ tree_of (with_writes txn ws))) (sym items)
-    (first_IsTransaction txn h mark.count, tree)
+back_kept txn self view h mark args same m writes items = grind (arith, common_steps, first_IsTransaction)

@@ -1,5 +1,5 @@
 -- What a transaction's type keeps, write by write.
-use Rattle.std.proofs.Common.{◌≡◌, ℕ, ◌^◌, ◌≤◌, Bool, true, false, cond, T, Option, Some, None, is_some, List, [], ◌∷◌, ◌++◌, length, refl, sym, ap, ◌∙◌, subst, arith}
+use Rattle.std.proofs.Common.{◌≡◌, ℕ, ◌^◌, ◌≤◌, Bool, true, false, cond, T, Option, Some, None, is_some, List, [], ◌∷◌, ◌++◌, length, refl, sym, ap, ◌∙◌, subst, arith, rules}
 use Rattle.std.specs.Prelude.{IsTrue}
 use Rattle.std.specs.List.{list_all}
 use Rattle.std.proofs.lemmas.Float.{T_from_true}
@@ -26,6 +26,7 @@ use Rattle.delta.specs.Laws.{row_inserted, FindsEffect, MayEdit}
 use Rattle.delta.proofs.CallerLemmas.{finds_effect, may_call, length-entries_over}
 use Rattle.txn.specs.Edit.{edited, MayBeEdited}
 use Rattle.txn.specs.Txn.{Transaction, asked_of, answers_of, effects_of, image_of, entries_of, tree_of, IsTransaction, IsFound, with_write, answer_to}
+use Rattle.std.proofs.lemmas.Grind.{common_steps}
 
 pub is_true : (b : Bool) → T b → IsTrue b
 is_true true h = refl
@@ -106,18 +107,10 @@ module _ (txn : Transaction) (h : IsTransaction txn) where
 
   -- its image has no more rows than the limit
   pub image_within : length (image_of txn) ≤ txn.limit
-  image_within =
-      limit_kept txn.schema txn.limit txn.table [] (asked_of txn)
-      (record { table = h.table; effects_are = record { keyed = refl; fitting = refl }; fit = refl })
-      (T_from_true (list_all (write_fits_schema txn.schema) (asked_of txn)) h.fitting) h.within
+  image_within = grind (arith, common_steps, limit_kept)
 
   pub entries_few : length (entries_of txn) ≤ 2 ^ 40
-  entries_few =
-      let bound = length-entries_over txn.schema txn.table (effects_of txn) h.lawful over in
-      let limited : txn.limit ≤ 2147483647 = h.limited in
-      let within = image_within in
-      let table = h.within in
-      omega (arith, bound, limited, within, table)
+  entries_few = grind (arith, common_steps, length-entries_over, over, image_within)
 
   -- ---- what it finds at a key
 
@@ -141,29 +134,10 @@ module _ (txn : Transaction) (h : IsTransaction txn) where
     answers-next = map-append (λ w. w.1) txn.writes ((write, answer_to txn write) ∷ [])
 
     pub is_next : IsTransaction next
-    is_next =
-        let replies = λ (writes : List Write). replies_to txn.schema.key_cols txn.limit txn.table [] writes in
-        let fit =
-        list_all-append (write_fits_schema txn.schema) (asked_of txn) write
-        (T_from_true (list_all (write_fits_schema txn.schema) (asked_of txn)) h.fitting)
-        (T_from_true (write_fits_schema txn.schema write) fits_it) in
-        record {
-          lawful = h.lawful;
-          table = h.table;
-          within = h.within;
-          limited = h.limited;
-          fitting = ap (list_all (write_fits_schema txn.schema)) asked-next ∙ is_true _ fit;
-          answered =
-              answers-next
-              ∙ ap (λ rs. rs ++ answer_to txn write ∷ []) h.answered
-              ∙ sym (replies_to-append txn.schema.key_cols txn.limit txn.table [] (asked_of txn) write)
-              ∙ ap replies (sym asked-next);
-        }
+    is_next = grind (arith, common_steps, list_all-append, asked-next, is_true, answers-next, replies_to-append)
 
     effects_of-next : effects_of next ≡ effects_after txn.schema.key_cols txn.limit txn.table (effects_of txn) write
-    effects_of-next =
-        ap (effects_after_all txn.schema.key_cols txn.limit txn.table []) asked-next
-        ∙ effects_after_all-append txn.schema.key_cols txn.limit txn.table [] (asked_of txn) write
+    effects_of-next = grind (arith, common_steps, asked-next, effects_after_all-append)
 
     abbrev pub was_inserted : Bool
     was_inserted = is_some (row_inserted (find key_cmp key (effects_of txn)))
@@ -201,42 +175,24 @@ pub seen : (txn self : Transaction) (view : txn ≡ self) (write : Write) (colum
     → columns ≡ self.schema → key_cols ≡ columns.key_cols → key ≡ key_of_write key_cols write
     → IsFound self key sid there inserted → count ≡ length (image_of self) → reply ≡ reply_where txn.limit there count write
     → IsSeen txn write sid inserted reply
-seen txn self view write columns key_cols key sid count there inserted reply fits_it columns_are cols_is key_is found_is count_is reply_is =
-    let same : key ≡ key_of_write self.schema.key_cols write =
-    key_is ∙ ap (λ k. key_of_write k write) (cols_is ∙ ap (λ (t : Columns). t.key_cols) columns_are) in
-    let here = subst (λ (k : Key). IsFound self k sid there inserted) same found_is in
-    let due : reply ≡ answer_to self write = reply_is ∙ (λ i. reply_where (view i).limit (here.there_is i) (count_is i) write) in
-    subst (λ (t : Transaction). IsSeen t write sid inserted reply) (sym view)
-    (record { fits = fits_it; sid_is = here.sid_is; inserted_is = here.inserted_is; due = due })
+seen txn self view write columns key_cols key sid count there inserted reply fits_it columns_are cols_is key_is found_is count_is reply_is = search rules
 
 -- its tree is in order, and what is found of a key's place is of it
 module _ (txn : Transaction) (h : IsTransaction txn) (tree : Tree) (tree_is : tree ≡ tree_of txn) where
   pub tree_ordered : IsTrue (are_ordered tree.key_cols tree.entries)
-  tree_ordered =
-      subst (λ (t : Tree). IsTrue (are_ordered t.key_cols t.entries)) (sym tree_is)
-      (is_true _ (ordered-canonical_entries txn.schema.key_cols txn.table (effects_of txn)
-      (T_from_true _ (over txn h).effects_are.keyed) (effects_fit txn h)))
+  tree_ordered = grind (arith, common_steps, is_true, ordered-canonical_entries, over, effects_fit)
 
   pub tree_split : (self : Transaction) (view : txn ≡ self) (write : Write) (columns : Columns) (key_cols : ℕ) (key : Key)
       (sid n : ℕ)
       → columns ≡ self.schema → key_cols ≡ columns.key_cols → key ≡ key_of_write key_cols write
       → IsSplit (stands_before (insert_cmp self.schema.key_cols key) sid) (entries_of self) n
       → IsSplit (stands_before (insert_cmp tree.key_cols (key_of_write tree.key_cols write)) sid) tree.entries n
-  tree_split self view write columns key_cols key sid n columns_are cols_is key_is split =
-      let same : key ≡ key_of_write self.schema.key_cols write =
-      key_is ∙ ap (λ k. key_of_write k write) (cols_is ∙ ap (λ (t : Columns). t.key_cols) columns_are) in
-      subst (λ (t : Tree). IsSplit (stands_before (insert_cmp t.key_cols (key_of_write t.key_cols write)) sid) t.entries n) (sym tree_is)
-      (subst
-      (λ (t : Transaction). IsSplit (stands_before (insert_cmp t.schema.key_cols (key_of_write t.schema.key_cols write)) sid) (entries_of t) n)
-      (sym view)
-      (subst (λ (k : Key). IsSplit (stands_before (insert_cmp self.schema.key_cols k) sid) (entries_of self) n) same split))
+  tree_split self view write columns key_cols key sid n columns_are cols_is key_is split = search rules
 
 module _ (txn : Transaction) (h : IsTransaction txn) (tree : Tree) (tree_is : tree ≡ tree_of txn) (write : Write) (sid : ℕ)
     (inserted : Bool) (reply : WriteReply) (s : IsSeen txn write sid inserted reply) where
   pub seen_place : sid ≤ 2147483647
-  seen_place =
-      let limited : txn.limit ≤ 2147483647 = h.limited in
-      omega (arith, s.sid_is, rank-le-length (key_of_write txn.schema.key_cols write) txn.table, h.within, limited)
+  seen_place = omega (arith, rank-le-length)
 
   abbrev edited_tree : Tree → ℕ → Bool → List Entry
   edited_tree t n b = edited t.key_cols n b write t.entries
@@ -248,10 +204,7 @@ module _ (txn : Transaction) (h : IsTransaction txn) (tree : Tree) (tree_is : tr
   edit_is i = edited_tree (tree_is i) (s.sid_is i) (s.inserted_is i)
 
   pub seen_may : IsTrue (is_done reply) → MayBeEdited tree.key_cols sid inserted write tree.entries
-  seen_may done =
-      let told = may txn h write s.fits (sym (ap is_done s.due) ∙ done) in
-      subst (λ (e : Tree × (ℕ × Bool)). MayBeEdited e.0.key_cols e.1.0 e.1.1 write e.0.entries)
-      (sym (λ i. (tree_is i, (s.sid_is i, s.inserted_is i)))) told
+  seen_may done = grind (arith, common_steps, may)
 
   -- the entries afterwards
   next_entries : cond (is_done reply) (edited_tree tree sid inserted) tree.entries ≡ entries_of (with_write txn write reply)

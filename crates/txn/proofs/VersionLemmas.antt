@@ -1,5 +1,5 @@
 -- What the lower layers of a version make.
-use Rattle.std.proofs.Common.{◌≡◌, ℕ, List, [], refl, sym, ap, ◌∙◌, subst}
+use Rattle.std.proofs.Common.{◌≡◌, ℕ, List, [], refl, sym, ap, ◌∙◌, subst, arith}
 use Rattle.std.specs.Bool.{passes}
 use Rattle.values.specs.Shape.{Columns}
 use Rattle.values.specs.declared.row.Row.{Row}
@@ -12,6 +12,7 @@ use Rattle.stable.specs.Stable.{Stable, IsStable, table_in}
 use Rattle.merge.specs.Image.{IsLayer, AreStacked, stack_of, stack_below, image_rows, image_table}
 use Rattle.merge.proofs.CallerLemmas.{layer_rows, merged_rows-nothing}
 use Rattle.txn.specs.Version.{Lower, lower_rows, lower_table, AreLower, alone, version_of, version_at, empty_tree}
+use Rattle.std.proofs.lemmas.Grind.{common_steps}
 
 -- ---- no entries
 
@@ -35,9 +36,7 @@ are_alone s h = record {
 
 -- and its version is that of its rows
 pub version_of-alone : (s : Stable) (number : ℕ) → version_of (alone s) number ≡ version_at s number
-version_of-alone s number =
-    let rows : merged_rows (merged_rows s.rows []) [] ≡ s.rows = merged_rows-nothing (merged_rows s.rows []) ∙ merged_rows-nothing s.rows in
-    λ i. record { schema = s.schema; table = table_of s.schema.key_cols (rows i); number = number }
+version_of-alone s number = grind (arith, common_steps, merged_rows-nothing)
 
 -- with no tree on top the image is the table below
 pub image_table-below : (l : Lower) → image_table (stack_below l.stable l.read l.write) ≡ lower_table l
@@ -61,10 +60,7 @@ module _ (l : Lower) (h : AreLower l) where
 
   -- the table that the layers show is the stable one with both trees' effects
   pub lower_table_is : lower_table l ≡ effects_table
-  lower_table_is =
-      ap (table_of l.stable.schema.key_cols) lower_rows_is
-      ∙ table_of-rows_of l.stable.schema.key_cols effects_table
-      (passes (is_keyed_table l.stable.schema.key_cols effects_table) effects_IsTable.keyed)
+  lower_table_is = grind (arith, common_steps, lower_rows_is, table_of-rows_of, effects_IsTable)
 
   pub lower_IsTable : IsTable l.stable.schema (lower_table l)
   lower_IsTable = subst (IsTable l.stable.schema) (sym lower_table_is) effects_IsTable

@@ -1,4 +1,4 @@
-use Rattle.std.proofs.Common.{◌≡◌, List, ◌∷◌, ◌++◌, [], sym, ap, ◌∙◌, subst}
+use Rattle.std.proofs.Common.{◌≡◌, List, ◌∷◌, ◌++◌, [], sym, ap, ◌∙◌, subst, rules}
 use Rattle.model.specs.declared.write.Write.{Write}
 use Rattle.model.specs.declared.write.WriteReply.{WriteReply}
 use Rattle.model.specs.Writes.{reply_where}
@@ -22,12 +22,7 @@ fields c =
 
 is_seen : (c : goal.After-write-3-1)
     → IsSeen (fields c) c.args.write c.find-found.result.sid (is_inserted c.find-found.result.row) c.reply_where-reply.result
-is_seen c =
-    seen (fields c) c.args.self.now c.self.view_is c.args.write c.schema.result.now c.key_cols-key_cols.result
-    c.key_of_write.result.now c.find-found.result.sid c.len.result (is_there c.find-found.result.row)
-    (is_inserted c.find-found.result.row) c.reply_where-reply.result c.requires
-    c.schema.ensures c.key_cols-key_cols.ensures.count c.key_of_write.ensures c.find-found.ensures.found c.len.ensures
-    (c.reply_where-reply.ensures ∙ ap (λ b. reply_where c.self.inside.row_limit b c.len.result c.args.write) c.is_there.ensures)
+is_seen c = search rules
 
 pub edit-requires-clause-sid : goal.edit-requires-clause-sid
 edit-requires-clause-sid c =
@@ -42,13 +37,6 @@ edit-requires-clause-place c =
     tree_split (fields c) c.self.invariant.0 c.self.inside.tree c.self.invariant.1 c.args.self.now c.self.view_is c.args.write
     c.schema.result.now c.key_cols-key_cols.result c.key_of_write.result.now c.find-found.result.sid c.find-found.result.index
     c.schema.ensures c.key_cols-key_cols.ensures.count c.key_of_write.ensures c.find-found.ensures.place
-
-pub edit-requires-clause-kept : goal.edit-requires-clause-kept
-edit-requires-clause-kept c = λ yes.
-    let found = c.find-found.result in
-    subst (λ (t : Tree). IsSplit (stands_before past_cmp found.sid) t.entries found.index) (sym c.self.invariant.1)
-    (subst (λ (t : Transaction). IsSplit (stands_before past_cmp found.sid) (entries_of t) found.index) (sym c.self.view_is)
-    (c.find-found.ensures.kept yes))
 
 pub edit-requires-clause-may : goal.edit-requires-clause-may
 edit-requires-clause-may c =

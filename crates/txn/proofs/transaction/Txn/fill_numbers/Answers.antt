@@ -1,4 +1,4 @@
-use Rattle.std.proofs.Common.{◌≡◌, ◌∙◌, List, length, min, take, drop, ap, sym, subst}
+use Rattle.std.proofs.Common.{◌≡◌, ◌∙◌, List, length, min, take, drop, ap, sym, subst, arith}
 use Rattle.values.specs.declared.row.Row.{Row}
 use Rattle.model.specs.Table.{rows_of}
 use Rattle.model.specs.Merging.{merged_rows}
@@ -12,6 +12,7 @@ use Rattle.txn.specs.Version.{table_version}
 use Rattle.txn.proofs.ReadsLemmas.{is_layer, image_rows_is}
 use Rattle.txn.proofs.transaction.Txn.fill_numbers.Goals.{After-fill_numbers}
 use Rattle.txn.proofs.transaction.Txn.fill_numbers.Goals as goal
+use Rattle.std.proofs.lemmas.Grind.{common_steps}
 
 pub layers-layers-requires : goal.layers-layers-requires
 layers-layers-requires c =
@@ -30,21 +31,7 @@ shown c =
     ∙ ap (λ (t : Transaction). rows_of (image_of t)) c.self.view_is
 
 pub returns-clause-count : goal.returns-clause-count
-returns-clause-count c =
-    c.fill_numbers.ensures.count
-    ∙ ap (λ (rows : List Row). min (length c.args.out.now) (length (drop c.args.from rows)))
-    (shown (goal.at.returns-clause-count c).After-fill_numbers)
+returns-clause-count c = grind (arith, common_steps, c.fill_numbers.ensures.count, shown)
 
 pub returns-clause-values : goal.returns-clause-values
-returns-clause-values c =
-    let col = c.args.col in
-    let count = c.fill_numbers.result in
-    let filled = take count c.fill_numbers.new.out in
-    let ty = type_at c.args.self.now.schema col in
-    let same = c.layers-layers.ensures.schema ∙ ap (λ (t : Transaction). t.schema) c.self.view_is in
-    subst (λ (rows : List Row). AreNumbersOf ty (column_values col (take count (drop c.args.from rows))) filled)
-    (shown (goal.at.returns-clause-values c).After-fill_numbers)
-    (subst
-    (λ (schema : Columns).
-    AreNumbersOf (type_at schema col) (column_values col (take count (drop c.args.from (image_rows c.layers-layers.result)))) filled) same
-    c.fill_numbers.ensures.values)
+returns-clause-values c = grind (arith, common_steps, c.layers-layers.ensures.schema, c.fill_numbers.ensures.values, shown)

@@ -13,11 +13,7 @@ use Rattle.txn.specs.Version.{lower_table, table_version}
 use Rattle.txn.proofs.transaction.Txn.find.Goals as goal
 
 pub find-place-requires : goal.find-place-requires
-find-place-requires c =
-    let inside = c.self.inside in
-    let h = c.self.invariant.0 in
-    let limited : inside.row_limit ≤ 2147483647 = h.limited in
-    omega (arith, c.locate-sid.ensures.rank, rank-le-length c.args.key.now (lower_table inside.version.layers), h.within, limited)
+find-place-requires c = omega (arith, c.self.invariant.0, c.locate-sid.ensures.rank, rank-le-length)
 
 pub returns-clause-found : goal.returns-clause-found
 returns-clause-found c =
@@ -37,16 +33,6 @@ returns-clause-found c =
     let row = c.at.ensures in
     subst (λ (t : Transaction). IsFound t key sid (is_there c.at.result) (is_inserted c.at.result)) c.self.view_is
     (subst (λ (e : Bool × Bool). IsFound txn key sid e.0 e.1) (sym (λ i. (row.there i, row.inserted i))) here)
-
-pub returns-clause-place : goal.returns-clause-place
-returns-clause-place c =
-    let key = c.args.key.now in
-    let sid = c.locate-sid.result.0 in
-    let place = c.find-place in
-    subst (λ (t : Transaction). IsSplit (stands_before (insert_cmp t.schema.key_cols key) sid) (entries_of t) place.result.index)
-    c.self.view_is
-    (subst (λ (t : Tree). IsSplit (stands_before (insert_cmp t.key_cols key) sid) t.entries place.result.index) c.self.invariant.1
-    place.ensures.split)
 
 pub returns-clause-kept : goal.returns-clause-kept
 returns-clause-kept c = λ yes.

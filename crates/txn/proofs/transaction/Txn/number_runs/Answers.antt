@@ -1,4 +1,4 @@
-use Rattle.std.proofs.Common.{◌≡◌, ◌∙◌, List, take, drop, ap, sym, subst}
+use Rattle.std.proofs.Common.{◌≡◌, ◌∙◌, List, take, drop, ap, sym, subst, arith}
 use Rattle.values.specs.declared.row.Row.{Row}
 use Rattle.model.specs.Table.{rows_of}
 use Rattle.model.specs.Merging.{merged_rows}
@@ -10,6 +10,7 @@ use Rattle.txn.specs.Version.{table_version}
 use Rattle.txn.proofs.ReadsLemmas.{is_layer, image_rows_is}
 use Rattle.txn.proofs.transaction.Txn.number_runs.Goals.{After-number_runs}
 use Rattle.txn.proofs.transaction.Txn.number_runs.Goals as goal
+use Rattle.std.proofs.lemmas.Grind.{common_steps}
 
 pub layers-image-requires : goal.layers-image-requires
 layers-image-requires c =
@@ -28,7 +29,4 @@ shown c =
     ∙ ap (λ (t : Transaction). rows_of (image_of t)) c.self.view_is
 
 pub returns : goal.returns
-returns c =
-    c.number_runs.ensures
-    ∙ ap (λ (rows : List Row). column_values c.args.col (drop c.args.from (take c.args.to rows)))
-    (shown (goal.at.returns c).After-number_runs)
+returns c = grind (arith, common_steps, c.number_runs.ensures, shown)
