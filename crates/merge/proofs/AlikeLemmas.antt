@@ -1,5 +1,5 @@
 -- The same layers over other stable rows, as many as there are.
-use Rattle.std.proofs.Common.{◌≡◌, ℕ, suc, ◌<◌, ◌≤◌, ◌^◌, None, List, [], ◌∷◌, ◌++◌, length, drop, refl, sym, ap, subst, arith}
+use Rattle.std.proofs.Common.{◌≡◌, ℕ, suc, ◌≤◌, None, List, [], ◌∷◌, ◌++◌, length, drop, refl, sym, ap, subst, arith}
 use Rattle.std.proofs.Common.{length-append, length-drop}
 use Rattle.std.specs.Prelude.{slice_set}
 use Rattle.values.specs.declared.row.Row.{Row}
@@ -14,6 +14,7 @@ use Rattle.merge.specs.Level.{IsOver, AreKept}
 use Rattle.merge.specs.Cursor.{TreeCursor, rows_left, IsCursorAt}
 use Rattle.merge.proofs.LeftLemmas.{Places, read_at, write_at, write_is, own_is}
 use Rattle.merge.proofs.StackLemmas.{AreLevels, are_levels, merged_rows-nothing}
+use Rattle.std.proofs.lemmas.Grind.{common_steps}
 
 -- ---- as many rows are merged from as many
 
@@ -49,15 +50,7 @@ length-merged_rows xs ys es same = length-merged_rows_from 0 xs ys es same
 module _ (tree : Tree) (rid : ℕ) (c : TreeCursor) (xs ys : List Row) (same : length ys ≡ length xs) (at : IsCursorAt xs rid c)
     (over : IsCursorAt ys rid c) where
   pub length-rows_left : length (rows_left c (drop c.sid ys)) ≡ length (rows_left c (drop c.sid xs))
-  length-rows_left =
-      omega (
-        arith,
-        ap length at.rows,
-        ap length over.rows,
-        length-drop rid (merged_rows xs c.tree.entries),
-        length-drop rid (merged_rows ys c.tree.entries),
-        length-merged_rows ys xs c.tree.entries same,
-      )
+  length-rows_left = grind (arith, common_steps, length-drop, length-merged_rows)
 
 module _ (stable : Stable) (read write trans : Tree) (len : ℕ) (h : AreKept stable read write trans len) (base : List Row)
     (same : length base ≡ length stable.rows) where
@@ -85,30 +78,13 @@ module _ (stable : Stable) (read write trans : Tree) (len : ℕ) (h : AreKept st
   moved_to key_cols es xs ys e is = subst (λ n. IsOver key_cols 0 n es) (sym e) is
 
   read_over : (rid : ℕ) (c : TreeCursor) → rid ≤ length (read_rows s) → Places read rid c → IsCursorAt base rid c
-  read_over rid c low places =
-      let small : length base < 2 ^ 62 = omega (arith, h.few, same) in
-      let within : rid ≤ length (read_rows o) = omega (arith, low, read_length) in
-      places base
-      (subst (λ n. IsOver n 0 (length base) read.entries) (sym h.stacked.lower.key_cols)
-      (moved_to stable.schema.key_cols read.entries stable.rows base same levels.lower)) h.read_lawful small within
+  read_over rid c low places = grind (arith, common_steps, read_length, moved_to, levels)
 
   write_over : (rid : ℕ) (c : TreeCursor) → rid ≤ length (write_rows s) → Places write rid c → IsCursorAt (read_rows o) rid c
-  write_over rid c low places =
-      let small : length (read_rows o) < 2 ^ 62 = omega (arith, h.read_few, read_length) in
-      let within : rid ≤ length (write_rows o) = omega (arith, low, write_length) in
-      places (read_rows o)
-      (subst (λ n. IsOver n 0 (length (read_rows o)) write.entries) (sym h.stacked.middle.key_cols)
-      (moved_to stable.schema.key_cols write.entries (read_rows s) (read_rows o) read_length levels.middle)) h.write_lawful small
-      within
+  write_over rid c low places = grind (arith, common_steps, read_length, write_length, moved_to, levels)
 
   trans_over : (rid : ℕ) (c : TreeCursor) → rid ≤ length (image_rows s) → Places trans rid c → IsCursorAt (write_rows o) rid c
-  trans_over rid c low places =
-      let small : length (write_rows o) < 2 ^ 62 = omega (arith, h.write_few, write_length) in
-      let within : rid ≤ length (image_rows o) = omega (arith, low, image_length) in
-      places (write_rows o)
-      (subst (λ n. IsOver n 0 (length (write_rows o)) trans.entries) (sym h.stacked.upper.key_cols)
-      (moved_to stable.schema.key_cols trans.entries (write_rows s) (write_rows o) write_length levels.upper)) h.trans_lawful small
-      within
+  trans_over rid c low places = grind (arith, common_steps, write_length, image_length, moved_to, levels)
 
   -- what is left under the two lower layers
   module _ (rid : ℕ) (r w : TreeCursor) (low : rid ≤ length (write_rows s)) (w_places : Places write rid w) (sid : ℕ) (sid_is : sid ≡ w.sid)
@@ -129,9 +105,7 @@ module _ (stable : Stable) (read write trans : Tree) (len : ℕ) (h : AreKept st
     lower_alike = length-rows_left read sid r stable.rows base same r_at r_over
 
     pub lower_is : rows_left w (rows_left r (drop r.sid base)) ≡ drop rid (write_rows o)
-    lower_is =
-        write_is base read.entries write.entries r w rid (subst (λ n. IsCursorAt base n r) sid_is r_over) (write_over rid w low w_places)
-        (ap (λ (x : Tree). x.entries) r_is) (ap (λ (x : Tree). x.entries) w_is)
+    lower_is = grind (arith, common_steps, write_is, r_over, write_over)
 
   -- and under the tree on top
   module _ (rid : ℕ) (t : TreeCursor) (low : rid ≤ length (image_rows s)) (places : Places trans rid t) (t_is : t.tree ≡ trans)
@@ -140,15 +114,7 @@ module _ (stable : Stable) (read write trans : Tree) (len : ℕ) (h : AreKept st
     upper_is = own_is (write_rows o) left trans.entries t rid (trans_over rid t low places) left_is (ap (λ (x : Tree). x.entries) t_is)
 
     pub upper_alike : length left ≡ length under
-    upper_alike =
-        omega (
-          arith,
-          ap length left_is,
-          ap length under_is,
-          length-drop t.sid (write_rows o),
-          length-drop t.sid (write_rows s),
-          write_length,
-        )
+    upper_alike = grind (arith, common_steps, length-drop, write_length)
 
 -- with no tree on top the image is what the two lower layers leave, over these stable rows too
 pub none_over : (stable : Stable) (read write : Tree) (base : List Row)

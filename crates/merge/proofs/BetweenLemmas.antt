@@ -3,13 +3,14 @@ use Rattle.std.proofs.Common.{◌≡◌, ℕ, zero, suc, ◌≤◌, Bool, true, 
 use Rattle.std.specs.FinMap.Entries.{below_all}
 use Rattle.std.specs.List.{list_all}
 use Rattle.values.specs.Orders.{key_cmp}
-use Rattle.values.specs.Shape.{Columns, fits_schema, key_of}
+use Rattle.values.specs.Shape.{Columns, key_of}
 use Rattle.values.specs.declared.row.Row.{Row}
 use Rattle.values.specs.declared.row.Key.{Key}
 use Rattle.model.specs.Maps.{is_sorted}
 use Rattle.model.specs.Table.{table_of}
 use Rattle.model.proofs.CallerLemmas.{both, first, second, is_keyed_table-table_of}
 use Rattle.stable.specs.Stable.{IsStable}
+use Rattle.std.proofs.lemmas.Grind.{common_steps}
 
 is_true : (b : Bool) → T b → b ≡ true
 is_true true h = refl
@@ -62,15 +63,4 @@ few_first (suc n) (row ∷ rows) = omega (arith, few_first n rows)
 
 pub between_stable : (schema : Columns) (from to : ℕ) (rows : List Row) → IsStable (record { schema = schema; rows = rows })
     → IsStable (record { schema = schema; rows = drop from (take to rows) })
-between_stable schema from to rows is =
-    let keys = schema.key_cols in
-    let fits = λ (e : Key × Row). fits_schema schema e.1 in
-    record {
-      table = record {
-        keyed =
-            is_true _ (is_keyed_table-table_of keys (drop from (take to rows))
-            (sorted_past keys from (take to rows) (sorted_first keys to rows (first _ _ (holds _ is.table.keyed)))));
-        fitting = is_true _ (all_past keys fits from (take to rows) (all_first keys fits to rows (holds _ is.table.fitting)));
-      };
-      few = omega (arith, few_past from (take to rows), few_first to rows, is.few);
-    }
+between_stable schema from to rows is = grind (arith, common_steps, is_true, is_keyed_table-table_of, sorted_past, sorted_first, first, holds, all_past, all_first, few_past, few_first)

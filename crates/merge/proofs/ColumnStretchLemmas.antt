@@ -34,14 +34,6 @@ over_next c row below left rows is = subst (λ (xs : List Row). IsCursor (length
 -- ---- the next row
 
 module _ (below left : List Row) (p : PassesRow below left) where
-  pub row-modified : (cells : Cells) (old new : TreeCursor) → ModifiesNext cells old new → IsCursor (length below) old
-      → PassesRow (rows_left old below) (rows_left new left)
-  row-modified cells old new h is =
-      record {
-        row = set_cells cells p.row;
-        rows = ap (rows_left old) p.rows ∙ h.rows p.row left (over_next old p.row below left p.rows is);
-      }
-
   pub cursor-modified : (cells : Cells) (old new : TreeCursor) → ModifiesNext cells old new → IsCursor (length below) old
       → IsCursor (length left) new
   cursor-modified cells old new h is = h.cursor (length left) (over_next old p.row below left p.rows is)

@@ -1,14 +1,14 @@
 -- Columns that grow one by one.
 use Rattle.std.proofs.Common.{◌≡◌, ℕ, zero, suc, ◌+◌, ◌<◌, ◌≤◌, List, [], ◌∷◌, ◌++◌, length, map, take, drop, get_or, set, refl}
-use Rattle.std.proofs.Common.{sym, ap, arith, false}
+use Rattle.std.proofs.Common.{ap, arith}
 use Rattle.std.specs.List.{range_with_len}
 use Rattle.std.proofs.lemmas.List.{map-append}
 use Rattle.values.specs.declared.row.Row.{Row}
 use Rattle.values.specs.declared.value.ColumnType.{ColumnType}
-use Rattle.values.specs.declared.value.Value.TheVariants.{Bool as Truth}
 use Rattle.blocks.specs.Column.{Column}
 use Rattle.stable.specs.Rows.{column_at, column_values}
 use Rattle.merge.specs.Columns.{grown}
+use Rattle.std.proofs.lemmas.Grind.{common_steps}
 
 -- a column with the values of more rows
 abbrev pub with_rows : ℕ → List Row → Column → Column
@@ -43,7 +43,4 @@ grown_to-end n (suc k) (c ∷ cs) rows le = ap (λ rest. with_rows n rows c ∷ 
 pub grown-columns : (types : List ColumnType) (rows more : List Row) (n k : ℕ)
     → grown n (map (column_at types rows) (range_with_len n k)) more ≡ map (column_at types (rows ++ more)) (range_with_len n k)
 grown-columns types rows more n zero = refl
-grown-columns types rows more n (suc k) =
-    let own : with_rows n more (column_at types rows n) ≡ column_at types (rows ++ more) n =
-    λ i. record { ty = (column_at types rows n).ty; values = sym (map-append (λ (row : Row). get_or row n (Truth false)) rows more) i } in
-    λ i. own i ∷ grown-columns types rows more (n + 1) k i
+grown-columns types rows more n (suc k) = grind (arith, common_steps, grown-columns types rows more (n + 1) k, map-append)

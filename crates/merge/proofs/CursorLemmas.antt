@@ -1,6 +1,6 @@
 -- The steps of a cursor.
-use Rattle.std.proofs.Common.{◌≡◌, ℕ, zero, suc, ◌+◌, ◌<◌, ◌≤◌, ◌^◌, Bool, true, false, cond, ◌&&◌, T, Some, None, List, [], ◌∷◌, ◌++◌, map, length, filter, take, drop, is_lt, refl, sym, ap, ◌∙◌, subst, arith, take-append-drop}
-use Rattle.std.specs.Prelude.{◌==◌, nat_lt, nat_le, ◌||◌, slice_get}
+use Rattle.std.proofs.Common.{◌≡◌, ℕ, zero, suc, ◌+◌, ◌<◌, ◌≤◌, ◌^◌, Bool, true, false, cond, ◌&&◌, T, Some, None, List, [], ◌∷◌, ◌++◌, length, take, drop, is_lt, refl, sym, ap, ◌∙◌, subst, arith, take-append-drop, rules}
+use Rattle.std.specs.Prelude.{◌==◌, nat_lt, nat_le, slice_get}
 use Rattle.std.specs.List.{list_all}
 use Rattle.std.proofs.lemmas.Bool.Decides.{nat_tests}
 use Rattle.std.proofs.lemmas.List.{take_more}
@@ -10,13 +10,14 @@ use Rattle.values.specs.declared.row.Key.{Key}
 use Rattle.model.specs.declared.entry.Entry.{Entry}
 use Rattle.model.specs.declared.entry.Change.{Change}
 use Rattle.model.specs.declared.entry.Change.TheVariants.{Ins, Del, Mod}
-use Rattle.model.specs.Entries.{entry_at, is_insert, is_delete, entry_cmp, are_ordered, IsLawful}
-use Rattle.model.specs.Merging.{changes_at, merged_rows_from}
+use Rattle.model.specs.Entries.{entry_at, is_delete, entry_cmp, are_ordered, IsLawful}
+use Rattle.model.specs.Merging.{merged_rows_from}
 use Rattle.model.proofs.CallerLemmas.{both, first, second, changes_at_other, merged_rows_from_insert, merged_rows_from_delete}
 use Rattle.merge.specs.Level.{stands_within, IsOver}
-use Rattle.merge.specs.View.{modified_cells, cells_at}
+use Rattle.merge.specs.View.{cells_at}
 use Rattle.merge.specs.Cursor.{TreeCursor, entries_left, is_past, IsCursor, entries_past, starts_with_delete, DeletesNext, InsertsNext}
 use Rattle.merge.proofs.LevelLemmas.{le_of, all_from, all_from-after, after_delete}
+use Rattle.std.proofs.lemmas.Grind.{common_steps}
 
 pub same_of : (a b : ℕ) → (a == b) ≡ true → a ≡ b
 same_of a b h = grind (arith, nat_tests)
@@ -35,10 +36,7 @@ of_lt a b h = grind (arith, nat_tests)
 -- from a place on, a list is what stands there and what stands after it
 pub drop-at : {X : Type 0} (xs : List X) (n : ℕ) (x : X) → slice_get xs n ≡ Some x → drop n xs ≡ x ∷ drop (n + 1) xs
 drop-at [] n x is = cc
-drop-at (y ∷ xs) zero x is = let same : y ≡ x = some_same y x is in ap (λ z. z ∷ xs) same
-  where
-    some_same : {X : Type 0} (y x : X) → Some y ≡ Some x → y ≡ x
-    some_same y x e = cc
+drop-at (y ∷ xs) zero x is = search rules
 drop-at (y ∷ xs) (suc n) x is = let e : suc n + 1 ≡ suc (n + 1) = omega arith in drop-at xs n x is ∙ ap (λ m. x ∷ drop m (y ∷ xs)) (sym e)
 
 pub slice_get-drop : {X : Type 0} (xs : List X) (n : ℕ) (x : X) (rest : List X) → drop n xs ≡ x ∷ rest → slice_get xs n ≡ Some x
@@ -91,38 +89,12 @@ starts-other sid es n x is other = starts-some sid es n x is ∙ ap (λ b. b && 
 -- only an entry at the SID passes it
 pub starts-fits : (key_cols sid : ℕ) (es : List Entry) (n : ℕ) → IsLawful key_cols es → starts_with_delete sid (drop n es) ≡ true
     → (sid < 2 ^ 32) × (n < length es)
-starts-fits key_cols sid es n h test = by (drop n es) refl test
-  where
-    by : (left : List Entry) → drop n es ≡ left → starts_with_delete sid left ≡ true → (sid < 2 ^ 32) × (n < length es)
-    by [] is t = cc
-    by (x ∷ rest) is t =
-        let at = slice_get-drop es n x rest is in
-        elim (x.sid == sid) as (λ b. (x.sid == sid) ≡ b → b && is_delete x.change ≡ true → (sid < 2 ^ 32) × (n < length es)) [
-          | true ↦ λ e g. let low =
-              placed_at key_cols es n x h at in let same = same_of x.sid sid e in (omega arith, slice_get_within es n x at)
-          | false ↦ λ e g. cc
-        ] refl t
+starts-fits key_cols sid es n h test = grind (arith, common_steps, slice_get-drop, placed_at, same_of, slice_get_within)
 
 -- ---- entries that are past
 
 is_past-weaken : (n m : ℕ) (e : Entry) → n ≤ m → T (is_past n e) → T (is_past m e)
-is_past-weaken n m e le h = by (nat_lt e.sid n) refl (is_insert e.change) h
-  where
-    by : (b : Bool) → nat_lt e.sid n ≡ b → (i : Bool) → T (b || i) → T (nat_lt e.sid m || i)
-    by true is i t =
-        let low : e.sid < n = lt_of e.sid n (subst T (sym is) tt) in
-        let lt : e.sid < m = omega arith in
-        subst (λ b. T (b || i)) (sym (yes (nat_lt e.sid m) (of_lt e.sid m lt))) tt
-      where
-        yes : (b : Bool) → T b → b ≡ true
-        yes true t = refl
-        yes false t = absurd t
-    by false is true t = or_true (nat_lt e.sid m)
-      where
-        or_true : (b : Bool) → T (b || true)
-        or_true true = tt
-        or_true false = tt
-    by false is false t = absurd t
+is_past-weaken n m e le h = search rules
 
 pub past-weaken : (n m : ℕ) (es : List Entry) → n ≤ m → T (list_all (is_past n) es) → T (list_all (is_past m) es)
 past-weaken n m [] le h = tt
@@ -130,18 +102,10 @@ past-weaken n m (e ∷ es) le h =
     both (is_past m e) _ (is_past-weaken n m e le (first (is_past n e) _ h)) (past-weaken n m es le (second (is_past n e) _ h))
 
 pub below_past : (n : ℕ) (e : Entry) → e.sid < n → T (is_past n e)
-below_past n e lt = subst (λ b. T (b || is_insert e.change)) (sym (yes (nat_lt e.sid n) (of_lt e.sid n lt))) tt
-  where
-    yes : (b : Bool) → T b → b ≡ true
-    yes true t = refl
-    yes false t = absurd t
+below_past n e lt = search rules
 
 pub insert_past : (n sid : ℕ) (row : Row) → T (is_past n (entry_at sid (Ins row)))
-insert_past n sid row = or_true (nat_lt sid n)
-  where
-    or_true : (b : Bool) → T (b || true)
-    or_true true = tt
-    or_true false = tt
+insert_past n sid row = search rules
 
 -- one more entry is past
 pub one_past : (n place : ℕ) (es : List Entry) (x : Entry) → slice_get es place ≡ Some x → T (is_past n x)
@@ -153,22 +117,7 @@ one_past n place es x is h past =
 -- no modify of the next row is past
 cells-past : (sid : ℕ) (xs ys : List Entry) → T (list_all (is_past sid) xs) → cells_at sid (xs ++ ys) ≡ cells_at sid ys
 cells-past sid [] ys h = refl
-cells-past sid (x ∷ xs) ys h = by (x.sid == sid) refl x.change refl ∙ cells-past sid xs ys (second (is_past sid x) _ h)
-  where
-    not_below : (a : ℕ) → a ≡ sid → nat_lt a sid ≡ false
-    not_below a e = grind (arith, nat_tests)
-
-    none : (c : Change) → x.change ≡ c → x.sid ≡ sid → is_insert c ≡ false → ⊥
-    none c k e other = subst T (ap (λ b. b || is_insert x.change) (not_below x.sid e) ∙ ap is_insert k ∙ other) (first (is_past sid x) _ h)
-
-    by : (b : Bool) → (x.sid == sid) ≡ b → (c : Change) → x.change ≡ c → cells_at sid (x ∷ xs ++ ys) ≡ cells_at sid (xs ++ ys)
-    by false e c k = ap modified_cells (changes_at_other sid x (xs ++ ys) e)
-    by true e (Ins row) k =
-        ap (λ b. modified_cells (map (λ (e : Entry). e.change)
-        (cond b (x ∷ filter (λ e. e.sid == sid) (xs ++ ys)) (filter (λ e. e.sid == sid) (xs ++ ys))))) e
-        ∙ ap (λ c. modified_cells (c ∷ changes_at sid (xs ++ ys))) k
-    by true e (Del key) k = absurd (none (Del key) k (same_of x.sid sid e) refl)
-    by true e (Mod col value) k = absurd (none (Mod col value) k (same_of x.sid sid e) refl)
+cells-past sid (x ∷ xs) ys h = grind (arith, common_steps, cells-past sid xs ys (second (is_past sid x) _ h), second, nat_tests, first, changes_at_other, same_of)
 
 pub cells_at-left : (c : TreeCursor) → T (list_all (is_past c.sid) (take c.index c.tree.entries))
     → cells_at c.sid c.tree.entries ≡ cells_at c.sid (entries_left c)
@@ -181,24 +130,15 @@ cells_at-left c h =
 pub within_from : (n m end : ℕ) (es : List Entry) → T (all_from m es) → T (list_all (stands_within n end) es)
     → T (list_all (stands_within m end) es)
 within_from n m end [] h w = tt
-within_from n m end (e ∷ es) h w =
-    both (stands_within m end e) _
-    (both (nat_le m e.sid) _ (first (nat_le m e.sid) _ h) (second (nat_le n e.sid) _ (first (stands_within n end e) _ w)))
-    (within_from n m end es (second (nat_le m e.sid) _ h) (second (stands_within n end e) _ w))
+within_from n m end (e ∷ es) h w = grind (arith, common_steps, within_from n m end es (second (nat_le m e.sid) _ h) (second (stands_within n end e) _ w), both, first, second)
 
 module _ (key_cols : ℕ) where
   pub over_from : (n m end stop : ℕ) (es : List Entry) → end ≡ stop → T (all_from m es) → IsOver key_cols n end es
       → IsOver key_cols m stop es
-  over_from n m end stop es is h o = record {
-    ordered = o.ordered;
-    within = subst (λ k. T (list_all (stands_within m k) es)) is (within_from n m end es h o.within);
-  }
+  over_from n m end stop es is h o = grind (arith, common_steps, within_from)
 
   pub over_tail : (n end : ℕ) (e : Entry) (es : List Entry) → IsOver key_cols n end (e ∷ es) → IsOver key_cols n end es
-  over_tail n end e es o = record {
-    ordered = second (list_all (λ y. is_lt (entry_cmp key_cols e y)) es) _ o.ordered;
-    within = second (stands_within n end e) _ o.within;
-  }
+  over_tail n end e es o = search rules
 
 -- ---- the steps
 
@@ -300,16 +240,11 @@ entries_past-at sid n es x is same =
 
 pub entries_past-other : (sid n : ℕ) (es : List Entry) (x : Entry) → slice_get es n ≡ Some x → (x.sid ≡ sid → ⊥)
     → entries_past sid (drop n es) ≡ drop n es
-entries_past-other sid n es x is other =
-    ap (entries_past sid) (drop-at es n x is)
-    ∙ ap (λ b. cond b (entries_past sid (drop (n + 1) es)) (x ∷ drop (n + 1) es)) (not_same x.sid sid other)
-    ∙ sym (drop-at es n x is)
+entries_past-other sid n es x is other = grind (arith, common_steps, drop-at, not_same)
 
 pub entries_past-none : (sid n : ℕ) (es : List Entry) → slice_get es n ≡ None → entries_past sid (drop n es) ≡ drop n es
 entries_past-none sid n es is = ap (entries_past sid) (drop-none es n is) ∙ sym (drop-none es n is)
 
 -- the entries that are left stand at the cursor or past it
 pub cursor-le : (c : TreeCursor) (count : ℕ) (x : Entry) → IsCursor count c → slice_get c.tree.entries c.index ≡ Some x → c.sid ≤ x.sid
-cursor-le c count x h is =
-    let w = subst (λ xs. T (list_all (stands_within c.sid (c.sid + count)) xs)) (drop-at c.tree.entries c.index x is) h.over.within in
-    le_of c.sid x.sid (first (nat_le c.sid x.sid) _ (first (stands_within c.sid (c.sid + count) x) _ w))
+cursor-le c count x h is = grind (arith, common_steps, drop-at, le_of, first)

@@ -1,9 +1,8 @@
 -- Numbers of a column, batch by batch.
-use Rattle.std.proofs.Common.{inl, inr, w64, SFits, to_z, of_z, Some, None, slice_get, ◌≡◌, ◌∙◌, ℕ, zero, suc, ◌+◌, ◌-◌, ◌<◌, ◌≤◌, List, [], ◌∷◌, ◌++◌, append_assoc, length, map, take, drop, get_or, refl, sym, ap, subst, arith}
+use Rattle.std.proofs.Common.{w64, SFits, to_z, of_z, Some, None, slice_get, ◌≡◌, ◌∙◌, ℕ, zero, suc, ◌+◌, ◌-◌, ◌<◌, ◌≤◌, List, [], ◌∷◌, ◌++◌, append_assoc, length, map, take, drop, get_or, refl, sym, ap, subst, arith}
 use Rattle.std.specs.Prelude.{ℤ, pos, Bool, IsTrue, cond, false, min, slice_set}
 use Rattle.std.specs.List.{All}
-use Rattle.std.proofs.lemmas.Bool.{cases_lt}
-use Rattle.std.proofs.lemmas.List.{drop-drop, drop_all, length-append, length-map, length-take, map-append, take-append-le}
+use Rattle.std.proofs.lemmas.List.{drop-drop, length-append, length-map, length-take, map-append, take-append-le}
 use Rattle.std.proofs.lemmas.List.Elements.{All-drop, All-head, All-map, All-same, All-weaker}
 use Rattle.std.proofs.Math.Seq.{take-append_seam}
 use Rattle.std.proofs.lemmas.Int.{to_z-of_z}
@@ -24,6 +23,7 @@ use Rattle.merge.specs.View.{last_cell}
 use Rattle.merge.proofs.ColumnStretchLemmas.{over_next, value-cell, value_or_false}
 use Rattle.merge.proofs.StretchLemmas.{take_append}
 use Rattle.merge.proofs.ViewLemmas.{or_else, slice_get-set_cells}
+use Rattle.std.proofs.lemmas.Grind.{common_steps}
 
 -- ---- numbers as values
 
@@ -81,17 +81,6 @@ pub fills_also : (col : ℕ) (old rows new : List Row) (xs ys : List ℤ) → ol
     → FillsRows col rows ys new
 fills_also col old rows new xs ys e same p =
     record { passed = p.passed; rows = sym e ∙ p.rows; numbers_are = sym same ∙ p.numbers_are }
-
--- as many rows are passed as there are numbers
-pub length-filled : (col : ℕ) (old new : List Row) (xs : List ℤ) → FillsRows col old xs new → length xs + length new ≡ length old
-length-filled col old new xs p =
-    omega (
-      arith,
-      ap (λ ns. length ns) p.numbers_are,
-      length-map p.passed (number_at col),
-      ap (λ rs. length rs) p.rows,
-      length-append p.passed new,
-    )
 
 -- what is so of all rows is so of those that are left
 pub all_left : (P : Row → Type 0) (old passed new : List Row) → old ≡ passed ++ new → All P old → All P new
@@ -256,30 +245,14 @@ room_first (x ∷ y ∷ part) out e = absurd (omega (arith, e))
 
 -- rows past the last are none
 pub drop_cut : {X : Type 0} (from start : ℕ) (rows : List X) → start ≡ min from (length rows) → drop start rows ≡ drop from rows
-drop_cut from start rows is =
-    elim (cases_lt (length rows) from) [
-      | inl l ↦
-          (let past : start ≡ length rows = grind (arith, is, l) in
-          ap (λ n. drop n rows) past ∙ drop_all (length rows) rows (omega arith) ∙ sym (drop_all from rows (omega (arith, l))))
-      | inr g ↦ (let near : start ≡ from = grind (arith, is, g) in ap (λ n. drop n rows) near)
-    ]
+drop_cut from start rows is = grind (arith, common_steps)
 
 -- a room that is filled with the numbers of rows has those of as many
 pub filled_part : (col count : ℕ) (old new : List Row) (numbers rest : List ℤ) → FillsRows col old numbers new → length numbers ≡ count
     → take count (numbers ++ rest) ≡ map (number_at col) (take count old)
-filled_part col count old new numbers rest p many =
-    let passed : length p.passed ≡ count = sym (length-map p.passed (number_at col)) ∙ ap (λ ns. length ns) (sym p.numbers_are) ∙ many in
-    ap (λ n. take n (numbers ++ rest)) (sym many)
-    ∙ take-append_seam numbers rest
-    ∙ p.numbers_are
-    ∙ ap (map (number_at col))
-    (sym (take-append_seam p.passed new) ∙ ap (λ n. take n (p.passed ++ new)) passed ∙ ap (take count) (sym p.rows))
+filled_part col count old new numbers rest p many = grind (arith, common_steps)
 
 -- the numbers of the first rows, and those that are left
 pub filled_taken : (col left : ℕ) (old new : List Row) (xs : List ℤ) → FillsRows col old xs new → length xs ≤ left
     → take left (map (number_at col) old) ≡ xs ++ take (left - length xs) (map (number_at col) new)
-filled_taken col left old new xs p few =
-    ap (λ rs. take left (map (number_at col) rs)) p.rows
-    ∙ ap (take left) (map-append (number_at col) p.passed new)
-    ∙ ap (λ ns. take left (ns ++ map (number_at col) new)) (sym p.numbers_are)
-    ∙ take_append left xs (map (number_at col) new) few
+filled_taken col left old new xs p few = grind (arith, common_steps, map-append, take_append)

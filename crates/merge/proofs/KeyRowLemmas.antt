@@ -1,6 +1,6 @@
 -- The row of a key in the image of a layer.
-use Rattle.std.proofs.Common.{◌≡◌, ℕ, suc, ◌+◌, ◌<◌, Bool, true, false, cond, not, ◌&&◌, T, Option, Some, None, is_some, List, []}
-use Rattle.std.proofs.Common.{◌∷◌, ◌++◌, map, filter, Less, Equal, Greater, is_lt, is_eq, refl, sym, ap, ◌∙◌, subst, arith}
+use Rattle.std.proofs.Common.{◌≡◌, ℕ, suc, ◌+◌, ◌<◌, Bool, true, false, cond, not, ◌&&◌, T, Option, Some, None, is_some, List, [], rules}
+use Rattle.std.proofs.Common.{◌∷◌, ◌++◌, map, Less, Equal, Greater, is_lt, is_eq, refl, sym, ap, ◌∙◌, subst, arith}
 use Rattle.std.specs.Prelude.{◌==◌, ◌||◌, slice_get, get_or}
 use Rattle.std.specs.FinMap.Entries.{below_all}
 use Rattle.std.proofs.lemmas.Bool.Decides.{nat_tests}
@@ -20,7 +20,6 @@ use Rattle.model.specs.Maps.{find, is_sorted}
 use Rattle.model.specs.Table.{Table, rows_of, row_at, rank}
 use Rattle.model.specs.Effects.{Cells, Effects, AreOver, fits, all_fit, row_after, set_cells, table_with}
 use Rattle.model.specs.Entries.{entry_at, entries_of, canonical_entries}
-use Rattle.model.specs.Merging.{changes_at}
 use Rattle.model.proofs.CallerLemmas.{first, second, changed_by, find_below, find_past, below_less, below_tied, turn_greater}
 use Rattle.model.proofs.CallerLemmas.{rank-lt, rank_below, one_if, rank-cons, row_at-table_with}
 use Rattle.delta.specs.Search.{insert_cmp, stands_before, IsSplit}
@@ -35,6 +34,7 @@ use Rattle.merge.specs.Image.{IsLayer}
 use Rattle.merge.specs.KeyRow.{row_above}
 use Rattle.merge.specs.View.{modified_cells, cells_at}
 use Rattle.delta.proofs.Words.{effect_on_base}
+use Rattle.std.proofs.lemmas.Grind.{common_steps}
 
 -- ---- the cells that canonical entries change
 
@@ -45,11 +45,7 @@ modified_cells-append (Del key ∷ xs) ys = modified_cells-append xs ys
 modified_cells-append (Mod col value ∷ xs) ys = ap (λ cells. (col, value) ∷ cells) (modified_cells-append xs ys)
 
 cells_at-append : (sid : ℕ) (xs ys : List Entry) → cells_at sid (xs ++ ys) ≡ cells_at sid xs ++ cells_at sid ys
-cells_at-append sid xs ys =
-    let at = λ (e : Entry). e.sid == sid in
-    ap (λ (es : List Entry). modified_cells (map (λ e. e.change) es)) (filter-append at xs ys)
-    ∙ ap modified_cells (map-append (λ (e : Entry). e.change) (filter at xs) (filter at ys))
-    ∙ modified_cells-append (changes_at sid xs) (changes_at sid ys)
+cells_at-append sid xs ys = grind (arith, common_steps, filter-append, map-append, modified_cells-append)
 
 -- the cells that an effect changes of a row that stays
 abbrev effect_cells : Effect → Cells
@@ -65,23 +61,13 @@ cells_of (Some f) = effect_cells f
 module _ (sid n : ℕ) where
   cells_at-cells : (cells : Cells) → cells_at sid (map (λ c. entry_at n (Mod c.0 c.1)) cells) ≡ cond (n == sid) cells []
   cells_at-cells [] = elim (n == sid) as (λ b. ◌≡◌ {A = Cells} [] (cond b [] [])) [ true ↦ refl | false ↦ refl ]
-  cells_at-cells (c ∷ cells) =
-      let rest : List Entry = filter (λ e. e.sid == sid) (map (λ c. entry_at n (Mod c.0 c.1)) cells) in
-      elim (n == sid) as (λ b. modified_cells (map (λ e. e.change) rest) ≡ cond b cells []
-      → modified_cells (map (λ e. e.change) (cond b (entry_at n (Mod c.0 c.1) ∷ rest) rest)) ≡ cond b (c ∷ cells) []) [
-        | true ↦ λ h. ap (λ cs. c ∷ cs) h
-        | false ↦ λ h. h
-      ] (cells_at-cells cells)
+  cells_at-cells (c ∷ cells) = grind (arith, common_steps, cells_at-cells cells)
 
   cells_at-effect : (k : Key) (f : Effect) → cells_at sid (entries_of n k f) ≡ cond (n == sid) (effect_cells f) []
-  cells_at-effect k (effect.Ins row) = elim (n == sid) as (λ b. modified_cells
-      (map (λ e. e.change) (cond b (entry_at n (Ins row) ∷ []) [])) ≡ cond b [] []) [ true ↦ refl | false ↦ refl ]
-  cells_at-effect k effect.Del = elim (n == sid) as (λ b. modified_cells
-      (map (λ e. e.change) (cond b (entry_at n (Del k) ∷ []) [])) ≡ cond b [] []) [ true ↦ refl | false ↦ refl ]
+  cells_at-effect k (effect.Ins row) = search rules
+  cells_at-effect k effect.Del = search rules
   cells_at-effect k (effect.Mod cells) = cells_at-cells cells
-  cells_at-effect k (effect.Rep row) =
-      elim (n == sid) as (λ b. modified_cells (map (λ e. e.change) (cond b (entry_at n (Ins row) ∷ cond b (entry_at n (Del k) ∷ []) [])
-      (cond b (entry_at n (Del k) ∷ []) []))) ≡ cond b [] []) [ true ↦ refl | false ↦ refl ]
+  cells_at-effect k (effect.Rep row) = search rules
 
 same_sid : (n m : ℕ) → n ≡ m → (n == m) ≡ true
 same_sid n m e = grind (arith, nat_tests)
@@ -176,10 +162,7 @@ module _ (schema : Columns) (t : Table) (x : Effects) (h : AreOver schema t x) (
 
   row_above-table_with : row_above (rank key t) es (row_at t key) (inserted_row schema.key_cols (rank key t) key es) change ≡ row_at
       (table_with t x) key
-  row_above-table_with =
-      ap (λ inserted. row_above (rank key t) es (row_at t key) inserted change) (finds_effect schema t x key h).insert
-      ∙ by_effect (find key_cmp key x) refl (row_at t key) refl
-      ∙ sym (row_at-table_with t x key (sorted_effects schema t x h key))
+  row_above-table_with = grind (arith, common_steps, finds_effect, by_effect, row_at-table_with, sorted_effects)
 
 pub layer_row : (schema : Columns) (t : Table) (tree : Tree) (h : IsLayer schema t tree) (key : Key) (r n : ℕ)
     (below inserted : Option Row) (made : BaseChange) → r ≡ rank key t

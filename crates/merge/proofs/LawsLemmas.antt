@@ -1,8 +1,7 @@
 -- The laws of a merge.
-use Rattle.std.proofs.Common.{◌≡◌, ◌∙◌, ℕ, zero, suc, ◌+◌, ◌<◌, Bool, true, false, cond, ◌&&◌, Some, List, [], ◌∷◌, ◌++◌, map, filter, take, refl, sym, ap, arith, is_lt, nat_cmp}
-use Rattle.std.specs.Prelude.{◌==◌, slice_get, slice_set}
+use Rattle.std.proofs.Common.{◌≡◌, ◌∙◌, ℕ, zero, suc, ◌+◌, ◌<◌, Some, List, [], ◌∷◌, map, take, refl, ap, arith, is_lt, nat_cmp}
+use Rattle.std.specs.Prelude.{slice_get, slice_set}
 use Rattle.std.specs.List.{list_all}
-use Rattle.std.specs.Ordering.{ordering_then}
 use Rattle.std.proofs.lemmas.List.{map-append}
 use Rattle.values.specs.Orders.{key_cmp}
 use Rattle.values.specs.Shape.{key_of}
@@ -13,10 +12,11 @@ use Rattle.model.specs.declared.entry.Change.{Change}
 use Rattle.model.specs.declared.entry.Change.TheVariants.{Ins, Del, Mod}
 use Rattle.model.specs.Entries.{are_ordered, change_cmp, entry_cmp}
 use Rattle.model.specs.Merging.{changes_at, inserted_rows, left_of, merged_rows, merged_rows_from}
-use Rattle.merge.specs.Image.{Stack, image_rows, read_rows, write_rows}
+use Rattle.merge.specs.Image.{Stack, image_rows}
 use Rattle.merge.specs.Laws.{Alter, Keeps, AMergeCommutes, APlaceholderIsEnough, AlteredEntriesAreOrdered}
 use Rattle.merge.specs.Laws.{altered_change, altered_entry, altered_from, altered_row, altered_stack}
 use Rattle.merge.specs.ColumnStretches.{column_cells}
+use Rattle.std.proofs.lemmas.Grind.{common_steps}
 
 module _ (f : Alter) where
   -- ---- a merge
@@ -35,17 +35,7 @@ module _ (f : Alter) where
 
   changes_at-altered : (sid : ℕ) (es : List Entry) → changes_at sid (map (altered_entry f) es) ≡ map (altered_change f) (changes_at sid es)
   changes_at-altered sid [] = refl
-  changes_at-altered sid (e ∷ es) = one (e.sid == sid) (changes_at-altered sid es)
-    where
-      one : (here : Bool)
-          → map (λ (x : Entry). x.change) (filter (λ x. x.sid == sid) (map (altered_entry f) es)) ≡ map (altered_change f) (changes_at sid es)
-          → map (λ (x : Entry). x.change)
-          (cond here (altered_entry f e ∷ filter (λ x. x.sid == sid) (map (altered_entry f) es))
-          (filter (λ x. x.sid == sid) (map (altered_entry f) es)))
-          ≡ map (altered_change f) (map (λ (x : Entry). x.change)
-          (cond here (e ∷ filter (λ x. x.sid == sid) es) (filter (λ x. x.sid == sid) es)))
-      one true rest = ap (λ xs. altered_change f e.change ∷ xs) rest
-      one false rest = rest
+  changes_at-altered sid (e ∷ es) = grind (arith, common_steps, changes_at-altered sid es)
 
   inserted_rows-altered : (cs : List Change) → inserted_rows (map (altered_change f) cs) ≡ map (altered_row f) (inserted_rows cs)
   inserted_rows-altered [] = refl
@@ -64,26 +54,14 @@ module _ (f : Alter) where
   merged_rows_from-altered : (sid : ℕ) (rows : List Row) (es : List Entry)
       → merged_rows_from sid (map (altered_row f) rows) (map (altered_entry f) es) ≡ map (altered_row f) (merged_rows_from sid rows es)
   merged_rows_from-altered sid [] es = ap inserted_rows (changes_at-altered sid es) ∙ inserted_rows-altered (changes_at sid es)
-  merged_rows_from-altered sid (row ∷ rows) es =
-      let changes = changes_at sid es in
-      let left = left_of row changes in
-      let rest = merged_rows_from (suc sid) rows es in
-      let own = changes_at-altered sid es in
-      (λ i. (ap inserted_rows own ∙ inserted_rows-altered changes) i
-      ++ ((ap (left_of (altered_row f row)) own ∙ left_of-altered row changes) i ++ merged_rows_from-altered (suc sid) rows es i))
-      ∙ ap (λ xs. map (altered_row f) (inserted_rows changes) ++ xs) (sym (map-append (altered_row f) left rest))
-      ∙ sym (map-append (altered_row f) (inserted_rows changes) (left ++ rest))
+  merged_rows_from-altered sid (row ∷ rows) es = grind (arith, common_steps, merged_rows_from-altered (suc sid) rows es, changes_at-altered, inserted_rows-altered, left_of-altered, map-append)
 
   merged_rows-altered : (rows : List Row) (es : List Entry)
       → merged_rows (map (altered_row f) rows) (map (altered_entry f) es) ≡ map (altered_row f) (merged_rows rows es)
   merged_rows-altered rows es = merged_rows_from-altered 0 rows es
 
   image_rows-altered : (s : Stack) → image_rows (altered_stack f s) ≡ map (altered_row f) (image_rows s)
-  image_rows-altered s =
-      ap (λ rows. merged_rows (merged_rows rows (map (altered_entry f) s.write)) (map (altered_entry f) s.trans))
-      (merged_rows-altered s.rows s.read)
-      ∙ ap (λ rows. merged_rows rows (map (altered_entry f) s.trans)) (merged_rows-altered (read_rows s) s.write)
-      ∙ merged_rows-altered (write_rows s) s.trans
+  image_rows-altered s = grind (arith, common_steps, merged_rows-altered)
 
   -- ---- a column whose values stay
 
@@ -132,17 +110,11 @@ module _ (f : Alter) where
         → list_all (λ y. is_lt (entry_cmp key_cols (altered_entry f x) y)) (map (altered_entry f) es)
         ≡ list_all (λ y. is_lt (entry_cmp key_cols x y)) es
     all_after-altered x [] = refl
-    all_after-altered x (y ∷ es) =
-        let own = change_cmp-altered x.change y.change in
-        let rest = all_after-altered x es in
-        λ i. is_lt (ordering_then (nat_cmp x.sid y.sid) (own i)) && rest i
+    all_after-altered x (y ∷ es) = grind (arith, common_steps, all_after-altered x es, change_cmp-altered, nat_cmp)
 
     are_ordered-altered : (es : List Entry) → are_ordered key_cols (map (altered_entry f) es) ≡ are_ordered key_cols es
     are_ordered-altered [] = refl
-    are_ordered-altered (x ∷ es) =
-        let own = all_after-altered x es in
-        let rest = are_ordered-altered es in
-        λ i. own i && rest i
+    are_ordered-altered (x ∷ es) = grind (arith, common_steps, are_ordered-altered es, all_after-altered)
 
 pub a_merge_commutes : AMergeCommutes
 a_merge_commutes f rows entries = merged_rows-altered f rows entries

@@ -10,6 +10,7 @@ use Rattle.merge.specs.Image.{Stack, stack_of, tree_over, read_rows, write_rows,
 use Rattle.merge.specs.Level.{IsOver, AreKept}
 use Rattle.merge.specs.Cursor.{TreeCursor, rows_left, IsCursor, IsCursorAt}
 use Rattle.merge.proofs.StackLemmas.{AreLevels, are_levels, image_rows-none}
+use Rattle.std.proofs.lemmas.Grind.{common_steps}
 
 -- what the call that places a cursor promises
 abbrev pub Places : Tree → ℕ → TreeCursor → Type 0
@@ -25,24 +26,13 @@ module _ (stable : Stable) (read write trans : Tree) (len : ℕ) (h : AreKept st
   levels = are_levels stable read write trans h.stacked
 
   pub trans_at : (rid : ℕ) (c : TreeCursor) → rid ≤ length (image_rows s) → Places trans rid c → IsCursorAt (write_rows s) rid c
-  trans_at rid c low places =
-      let small : length (write_rows s) < 2 ^ 62 = omega (arith, h.write_few) in
-      places (write_rows s)
-      (subst (λ n. IsOver n 0 (length (write_rows s)) trans.entries) (sym h.stacked.upper.key_cols) levels.upper) h.trans_lawful
-      small low
+  trans_at rid c low places = grind (arith, common_steps, levels)
 
   pub write_at : (rid : ℕ) (c : TreeCursor) → rid ≤ length (write_rows s) → Places write rid c → IsCursorAt (read_rows s) rid c
-  write_at rid c low places =
-      let small : length (read_rows s) < 2 ^ 62 = omega (arith, h.read_few) in
-      places (read_rows s)
-      (subst (λ n. IsOver n 0 (length (read_rows s)) write.entries) (sym h.stacked.middle.key_cols) levels.middle)
-      h.write_lawful small low
+  write_at rid c low places = grind (arith, common_steps, levels)
 
   pub read_at : (rid : ℕ) (c : TreeCursor) → rid ≤ length (read_rows s) → Places read rid c → IsCursorAt stable.rows rid c
-  read_at rid c low places =
-      let small : length stable.rows < 2 ^ 62 = omega (arith, h.few) in
-      places stable.rows (subst (λ n. IsOver n 0 (length stable.rows) read.entries) (sym h.stacked.lower.key_cols) levels.lower)
-      h.read_lawful small low
+  read_at rid c low places = grind (arith, common_steps, levels)
 
 -- what is left under the two lower layers
 module _ (rows : List Row) (read write : List Entry) (r w : TreeCursor) (rid : ℕ) (hr : IsCursorAt rows w.sid r)
@@ -84,10 +74,7 @@ module _ (stable : Stable) (read write : Tree) (over : Option Tree) (len : ℕ) 
 
   -- with no tree on top the image is what the two lower layers leave
   pub none_on_top : over ≡ None → write_rows s ≡ image_rows s
-  none_on_top none =
-      ap write_rows (sym (view_with None none))
-      ∙ sym (image_rows-none stable read write)
-      ∙ ap image_rows (view_with None none)
+  none_on_top none = grind (arith, common_steps, view_with, image_rows-none)
 
   pub tree_on_top : (trans : Tree) → over ≡ Some trans → (rid : ℕ) (t : TreeCursor) → rid ≤ length (image_rows s) → Places trans rid t
       → t.tree ≡ trans → IsOnTop (write_rows s) (image_rows s) rid t

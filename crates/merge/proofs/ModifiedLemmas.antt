@@ -8,6 +8,7 @@ use Rattle.model.specs.Effects.{Cells, set_cells}
 use Rattle.merge.specs.View.{layer_cells, last_cell, own_cells, row_of, row_over, source_over, source_row}
 use Rattle.merge.specs.declared.view.RowView.{RowView}
 use Rattle.merge.proofs.ViewLemmas.{first_other, last_cell-so_far, length-set_cells, or_else, or_else-twice, other_first, same_next, slice_get-row_of}
+use Rattle.std.proofs.lemmas.Grind.{common_steps}
 
 last_cell-append : (col : ℕ) (so_far : Option Value) (xs ys : Cells)
     → last_cell col so_far (xs ++ ys) ≡ last_cell col (last_cell col so_far xs) ys
@@ -78,32 +79,16 @@ module _ (v : RowView) (col : ℕ) where
 
   -- the value that the highest layer gives
   pub own_cell : last_cell col None (own_cells v) ≡ or_else in_trans (or_else in_write in_read)
-  own_cell =
-      last_cell-append col None (layer_cells v.read) (layer_cells v.write ++ layer_cells v.trans)
-      ∙ last_cell-append col in_read (layer_cells v.write) (layer_cells v.trans)
-      ∙ last_cell-so_far col (last_cell col in_read (layer_cells v.write)) (layer_cells v.trans)
-      ∙ ap (or_else in_trans) (last_cell-so_far col in_read (layer_cells v.write))
+  own_cell = grind (arith, common_steps, last_cell-append, last_cell-so_far, or_else)
 
   pub slice_get-row : col < length (row_of v)
       → slice_get (row_of v) col ≡ or_else (last_cell col None (own_cells v)) (slice_get (source_row v.source) col)
-  slice_get-row lt =
-      let source = slice_get (source_row v.source) col in
-      slice_get-row_of v col in_trans in_write in_read lt refl refl refl
-      ∙ ap (or_else in_trans) (sym (or_else-twice in_write in_read source))
-      ∙ sym (or_else-twice in_trans (or_else in_write in_read) source)
-      ∙ ap (λ o. or_else o source) (sym own_cell)
+  slice_get-row lt = grind (arith, common_steps, slice_get-row_of, or_else, or_else-twice, own_cell)
 
   -- where no layer gives one, the value is that of the stable row
   pub kept_over : last_cell col None (own_cells v) ≡ None → (base : List Row)
       → slice_get (row_over base v) col ≡ slice_get (source_over base v.source) col
-  kept_over none base =
-      let upper = or_else-none in_trans (or_else in_write in_read) (sym own_cell ∙ none) in
-      let lower = or_else-none in_write in_read upper.1 in
-      let source = source_over base v.source in
-      let read = set_cells (layer_cells v.read) source in
-      slice_get-set_cells_none (layer_cells v.trans) (set_cells (layer_cells v.write) read) col upper.0
-      ∙ slice_get-set_cells_none (layer_cells v.write) read col lower.0
-      ∙ slice_get-set_cells_none (layer_cells v.read) source col lower.1
+  kept_over none base = grind (arith, common_steps, or_else-none, or_else, own_cell, slice_get-set_cells_none)
 
   -- where one does, it is the one that they give, of rows as wide
   pub own_over : is_some (last_cell col None (own_cells v)) ≡ true → (base other : List Row)

@@ -1,5 +1,5 @@
 -- Stretches of a range, over the stable rows and over any others.
-use Rattle.std.proofs.Common.{◌≡◌, ◌∙◌, ℕ, ◌+◌, ◌-◌, ◌≤◌, List, [], ◌∷◌, ◌++◌, length, take, drop, refl, sym, ap, subst, arith}
+use Rattle.std.proofs.Common.{◌≡◌, ◌∙◌, ℕ, ◌+◌, ◌≤◌, List, [], ◌∷◌, ◌++◌, length, drop, refl, sym, ap, subst, arith}
 use Rattle.std.proofs.lemmas.List.{drop-drop}
 use Rattle.values.specs.declared.row.Row.{Row}
 use Rattle.merge.specs.Image.{Stack, image_rows, stack_over}
@@ -9,6 +9,7 @@ use Rattle.merge.specs.Stretches.{IsStretch, PassesOver, stretch_over, stretch_r
 use Rattle.merge.specs.declared.image.Image.{Image}
 use Rattle.merge.specs.declared.stretch.Stretch.{Stretch}
 use Rattle.merge.proofs.StretchLemmas.{take_append, stretch_some}
+use Rattle.std.proofs.lemmas.Grind.{common_steps}
 
 drop_append : {X : Type 0} (xs ys : List X) → drop (length xs) (xs ++ ys) ≡ ys
 drop_append [] ys = refl
@@ -66,18 +67,4 @@ module _ (stack : Stack) (rid left : ℕ) (old new : Image) (stretch : Stretch) 
 
   pub passes_next : PassesPlaced (record { stack = stack; rid = rid; left = left }) stretch
       (placed_past count (record { stack = stack; rid = rid; left = left }))
-  passes_next = record {
-    is = is;
-    some = stretch_some 3 stretch is;
-    few = most;
-    own =
-        same_heads (stretch_over stack.rows stretch) (stretch_rows stretch) (image_over stack.rows new) (image_left new)
-        (next_over stack.rows refl).count
-        (sym (next_over stack.rows refl).rows ∙ sym h.rows ∙ rows);
-    over = λ base same.
-        let next = next_over base same in
-        ap (take left) next.rows
-        ∙ take_append left (stretch_over base stretch) (image_over base new) (omega (arith, next.count, most))
-        ∙ (λ i. stretch_over base stretch ++ take (left - next.count i) (image_over_new base same i));
-    moved = refl;
-  }
+  passes_next = grind (arith, common_steps, stretch_some, same_heads, next_over, take_append, image_over_new)

@@ -16,6 +16,7 @@ use Rattle.model.specs.Places.{insert_count, delete_count}
 use Rattle.model.proofs.CallerLemmas.{both, first, second, all_after, merged_rows_from_insert, merged_rows_from_delete}
 use Rattle.merge.specs.Level.{stands_within, IsOver}
 use Rattle.merge.proofs.LevelLemmas.{le_of, all_from, all_from-ordered, all_from-after, after_delete, merged_rows_from-gap, merged_rows_from-cell}
+use Rattle.std.proofs.lemmas.Grind.{common_steps}
 
 -- an entry at place n or past it, that comes before what becomes of the base row at place s
 abbrev pub is_passed : ℕ → ℕ → Entry → Bool
@@ -64,20 +65,12 @@ module _ (key_cols : ℕ) where
   past_delete : (m k s : ℕ) (key : Key) (row : Row) (base : List Row) (before after : List Entry)
       → T (all_after m (before ++ after)) → IsReached (suc m) k s base before after
       → IsReached m (suc k) s (row ∷ base) (entry_at m (Del key) ∷ before) after
-  past_delete m k s key row base before after far h = record {
-    passed = h.passed;
-    image = merged_rows_from_delete m key row base (before ++ after) far ∙ h.image;
-    count = omega (arith, h.count);
-  }
+  past_delete m k s key row base before after far h = grind (arith, common_steps, merged_rows_from_delete)
 
   past_modify : (m k s col : ℕ) (value : Value) (row : Row) (base : List Row) (before after : List Entry)
       → IsReached m (suc k) s (slice_set row col value ∷ base) before after
       → IsReached m (suc k) s (row ∷ base) (entry_at m (Mod col value) ∷ before) after
-  past_modify m k s col value row base before after h = record {
-    passed = h.passed;
-    image = merged_rows_from-cell m col value row base (before ++ after) ∙ h.image;
-    count = h.count;
-  }
+  past_modify m k s col value row base before after h = grind (arith, common_steps, merged_rows_from-cell)
 
   -- past a delete, and past a modify, of some row of the base
   past_some_delete : (m k s : ℕ) (key : Key) (base : List Row) (before after : List Entry) → s ≡ m + k → 0 < k → k ≤ length base
@@ -86,10 +79,7 @@ module _ (key_cols : ℕ) where
       → IsReached m k s base (entry_at m (Del key) ∷ before) after
   past_some_delete m zero s key base before after is some short far rest = absurd (omega arith)
   past_some_delete m (suc k) s key [] before after is some short far rest = absurd (omega arith)
-  past_some_delete m (suc k) s key (row ∷ base) before after is some short far rest =
-      let next : s ≡ suc m + k = omega arith in
-      let shorter : k ≤ length base = omega arith in
-      past_delete m k s key row base before after far (rest k base next shorter)
+  past_some_delete m (suc k) s key (row ∷ base) before after is some short far rest = grind (arith, common_steps, past_delete)
 
   past_some_modify : (m k s col : ℕ) (value : Value) (base : List Row) (before after : List Entry) → 0 < k → k ≤ length base
       → ((base' : List Row) → k ≤ length base' → IsReached m k s base' before after)
@@ -103,10 +93,7 @@ module _ (key_cols : ℕ) where
   passed_from : (n m s : ℕ) (es fs : List Entry) → T (all_from m (es ++ fs)) → T (list_all (is_passed n s) es)
       → T (list_all (is_passed m s) es)
   passed_from n m s [] fs h p = tt
-  passed_from n m s (e ∷ es) fs h p =
-      both (is_passed m s e) _
-      (both (nat_le m e.sid) _ (first (nat_le m e.sid) _ h) (second (nat_le n e.sid) _ (first (is_passed n s e) _ p)))
-      (passed_from n m s es fs (second (nat_le m e.sid) _ h) (second (is_passed n s e) _ p))
+  passed_from n m s (e ∷ es) fs h p = grind (arith, common_steps, passed_from n m s es fs (second (nat_le m e.sid) _ h) (second (is_passed n s e) _ p), both, first, second)
 
   -- the entries past one in order
   abbrev follow : Entry → List Entry → Bool

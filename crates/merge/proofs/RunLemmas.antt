@@ -1,15 +1,14 @@
 -- Runs of a column, and what is left past them.
-use Rattle.std.proofs.Common.{◌≡◌, ℕ, zero, suc, ◌+◌, ◌-◌, ◌<◌, ◌≤◌, Bool, true, false, T, Option, Some, None, List, [], ◌∷◌, ◌++◌, length, map, take, drop, get_or, refl, sym, ap, ◌∙◌, arith}
+use Rattle.std.proofs.Common.{◌≡◌, ℕ, zero, suc, ◌+◌, ◌-◌, ◌<◌, ◌≤◌, Bool, true, false, T, Option, Some, None, List, [], ◌∷◌, ◌++◌, length, map, take, drop, get_or, refl, ap, ◌∙◌, arith}
 use Rattle.std.specs.Prelude.{is_none}
 use Rattle.std.specs.List.{All, list_all}
 use Rattle.std.proofs.Math.Seq.{take-add}
-use Rattle.std.proofs.lemmas.List.{drop-drop, take-map, drop-map, map-append}
+use Rattle.std.proofs.lemmas.List.{drop-drop, take-map, drop-map}
 use Rattle.values.specs.Shape.{Columns, row_fault, fits_schema}
 use Rattle.values.specs.declared.fault.ShapeFault.{ShapeFault}
 use Rattle.values.specs.declared.row.Row.{Row}
 use Rattle.values.specs.declared.value.ColumnType.TheVariants as column
 use Rattle.values.specs.declared.value.Value.{Value}
-use Rattle.values.specs.declared.value.Value.TheVariants.{Bool as Truth}
 use Rattle.model.specs.Table.{table_of, IsTable}
 use Rattle.model.proofs.CallerLemmas.{first, second}
 use Rattle.stable.specs.Rows.{column_values}
@@ -17,6 +16,7 @@ use Rattle.stable.proofs.CallerLemmas.{fit_at, width_of}
 use Rattle.merge.specs.Fitting.{StandsAt}
 use Rattle.merge.specs.Runs.{range_values}
 use Rattle.merge.specs.declared.run.ColumnRange.{ColumnRange}
+use Rattle.std.proofs.lemmas.Grind.{common_steps}
 
 -- the first of so many values, and the others
 pub range_next : (values : List Value) (first count n : ℕ) → n ≤ count
@@ -30,10 +30,7 @@ range_next values first count n le =
 -- a run of items that stand for values is a run of these
 pub run_mapped : {X : Type 0} (f : X → Value) (xs : List X) (values : List Value) (first count n : ℕ) → map f xs ≡ values → n ≡ count
     → map f (take n (drop first xs)) ≡ take count (drop first values)
-run_mapped f xs values first count n is same =
-    sym (ap (take n) (drop-map f first xs) ∙ take-map f n (drop first xs))
-    ∙ ap (λ m. take m (drop first (map f xs))) same
-    ∙ ap (λ vs. take count (drop first vs)) is
+run_mapped f xs values first count n is same = grind (arith, common_steps, drop-map, first, take-map)
 
 -- ---- the next stretch, where nothing is left of the one before
 
@@ -42,11 +39,7 @@ nothing_left range none = let is : range.count ≡ 0 = omega (arith, none) in ap
 
 pub values_next : (col : ℕ) (range : ColumnRange) (own rest all : List Row) (values : List Value) → range.count ≤ 0 → all ≡ own ++ rest
     → values ≡ column_values col own → range_values range ++ column_values col all ≡ values ++ column_values col rest
-values_next col range own rest all values none is own_are =
-    ap (λ vs. vs ++ column_values col all) (nothing_left range none)
-    ∙ ap (column_values col) is
-    ∙ map-append (λ (row : Row). get_or row col (Truth false)) own rest
-    ∙ ap (λ vs. vs ++ column_values col rest) (sym own_are)
+values_next col range own rest all values none is own_are = grind (arith, common_steps)
 
 -- ---- rows of a table
 

@@ -13,9 +13,8 @@ use Rattle.model.specs.declared.entry.Entry.{Entry}
 use Rattle.model.specs.declared.entry.Change.TheVariants.{Mod}
 use Rattle.model.specs.declared.effect.Effect.{Effect}
 use Rattle.model.specs.declared.effect.Effect.TheVariants as effect
-use Rattle.model.specs.Maps.{is_sorted}
 use Rattle.model.specs.Table.{Table, rows_of, row_at, rank, table_of, is_keyed_table, IsTable}
-use Rattle.model.specs.Effects.{Cells, Effects, AreOver, fits, all_fit, are_keyed_effects, is_keyed_effect, table_with}
+use Rattle.model.specs.Effects.{Cells, Effects, AreOver, fits, all_fit, table_with}
 use Rattle.model.specs.Entries.{entry_at, entries_of, canonical_entries, IsLawful}
 use Rattle.model.specs.Merging.{merged_rows}
 use Rattle.model.proofs.CallerLemmas.{both, first, second, is_below, one_if, rank-cons, rank-le-length, ordered-canonical_entries, rows_of-table_of, table_of-rows_of, merged_rows-canonical_entries, merged_rows_from_nothing, leaves}
@@ -23,6 +22,7 @@ use Rattle.stable.specs.Stable.{Stable, table_in}
 use Rattle.delta.specs.Tree.{Tree}
 use Rattle.merge.specs.Image.{Stack, stack_of, stack_below, tree_over, read_rows, write_rows, image_rows, image_table, IsLayer, AreBothStacked, AreStacked}
 use Rattle.merge.specs.Level.{stands_within, IsOver}
+use Rattle.std.proofs.lemmas.Grind.{common_steps}
 
 -- the layers of a stack, each in order over the rows below it
 pub record AreLevels (s : Stack) : Type 0 where
@@ -66,9 +66,7 @@ module _ (n end : ℕ) where
   within_append : (es fs : List Entry) → T (list_all (stands_within n end) es) → T (list_all (stands_within n end) fs)
       → T (list_all (stands_within n end) (es ++ fs))
   within_append [] fs p q = q
-  within_append (e ∷ es) fs p q =
-      both (stands_within n end e) _ (first (stands_within n end e) _ p)
-      (within_append es fs (second (stands_within n end e) _ p) q)
+  within_append (e ∷ es) fs p q = grind (arith, common_steps)
 
 -- the entries of one effect stand within the table
 entries_within : (t : Table) (k : Key) (f : Effect) → T (fits (row_at t k) f)
@@ -83,37 +81,20 @@ entries_within t k effect.Del fit =
 entries_within t k (effect.Mod cells) fit =
     let low : 0 ≤ rank k t = omega arith in
     cells_within 0 (length t) (rank k t) cells low (rank-there k t fit)
-entries_within t k (effect.Rep row) fit =
-    let low : 0 ≤ rank k t = omega arith in
-    both (nat_le 0 (rank k t) && nat_le (rank k t) (length t)) _
-    (both (nat_le 0 (rank k t)) _ (of_le 0 (rank k t) low) (of_le (rank k t) (length t) (rank-le-length k t)))
-    (both (nat_le 0 (rank k t) && nat_lt (rank k t) (length t)) _ (base_within 0 (length t) (rank k t) low (rank-there k t fit)) tt)
+entries_within t k (effect.Rep row) fit = grind (arith, common_steps, both, of_le, rank-le-length, base_within, rank-there)
 
 canonical_within : (t : Table) (x : Effects) → T (all_fit t x) → T (list_all (stands_within 0 (length t)) (canonical_entries t x))
 canonical_within t [] fit = tt
-canonical_within t (e ∷ x) fit =
-    within_append 0 (length t) (entries_of (rank e.0 t) e.0 e.1) (canonical_entries t x)
-    (entries_within t e.0 e.1 (first (fits (row_at t e.0) e.1) _ fit))
-    (canonical_within t x (second (fits (row_at t e.0) e.1) _ fit))
+canonical_within t (e ∷ x) fit = grind (arith, common_steps, canonical_within t x (second (fits (row_at t e.0) e.1) _ fit), within_append, entries_within, first, second)
 
 module _ (schema : Columns) where
   -- the entries of effects over a table stand in order over its rows
   pub over-canonical_entries : (t : Table) (x : Effects) → AreOver schema t x → IsOver schema.key_cols 0 (length t) (canonical_entries t x)
-  over-canonical_entries t x h = record {
-    ordered =
-        ordered-canonical_entries schema.key_cols t x (passes (are_keyed_effects schema.key_cols x) h.effects_are.keyed)
-        (passes (all_fit t x) h.fit);
-    within = canonical_within t x (passes (all_fit t x) h.fit);
-  }
+  over-canonical_entries t x h = grind (arith, common_steps, ordered-canonical_entries, canonical_within)
 
   -- they make of its rows those of the table after them
   pub merges : (t : Table) (x : Effects) → AreOver schema t x → merged_rows (rows_of t) (canonical_entries t x) ≡ rows_of (table_with t x)
-  merges t x h =
-      merged_rows-canonical_entries t x
-      (first (is_sorted key_cmp t) _ (passes (is_keyed_table schema.key_cols t) h.table.keyed))
-      (first (is_sorted key_cmp x) (list_all (λ e. is_keyed_effect schema.key_cols e.0 e.1) x)
-      (passes (are_keyed_effects schema.key_cols x) h.effects_are.keyed))
-      (passes (all_fit t x) h.fit)
+  merges t x h = grind (arith, common_steps, merged_rows-canonical_entries, first)
 
   -- a layer over a table, over rows that are the table's
   module _ (t : Table) (tree : Tree) (h : IsLayer schema t tree) (rows : List Row) (same : rows ≡ rows_of t) where
@@ -176,9 +157,7 @@ module _ (stable : Stable) (read write trans : Tree) (h : AreStacked stable read
 
 -- rows that are a table's are a table under their keys
 keyed_rows : (schema : Columns) (t : Table) (rows : List Row) → IsTable schema t → rows ≡ rows_of t → IsTable schema (table_of schema.key_cols rows)
-keyed_rows schema t rows h is =
-    subst (IsTable schema)
-    (sym (ap (table_of schema.key_cols) is ∙ table_of-rows_of schema.key_cols t (passes (is_keyed_table schema.key_cols t) h.keyed))) h
+keyed_rows schema t rows h is = grind (arith, common_steps, table_of-rows_of)
 
 module _ (stable : Stable) (read write trans : Tree) (h : AreStacked stable read write trans) where
   pub stable_is_table : IsTable stable.schema (table_of stable.schema.key_cols stable.rows)

@@ -1,11 +1,9 @@
 -- The steps of a cursor past modifies, and over rows as they are.
-use Rattle.std.proofs.Common.{Bor, ◌≡◌, ◌⊎◌, inl, inr, ℕ, suc, ◌+◌, ◌-◌, ◌<◌, ◌≤◌, Bool, true, false, cond, not, T, Some, None, List}
-use Rattle.std.proofs.Common.{[], ◌∷◌, ◌++◌, map, length, filter, take, drop, is_lt, nat_cmp, refl, sym, ap, ◌∙◌, zero, subst}
+use Rattle.std.proofs.Common.{Bor, ◌≡◌, ◌⊎◌, inl, inr, ℕ, suc, ◌+◌, ◌-◌, ◌<◌, ◌≤◌, Bool, true, false, cond, not, T, Some, None, List, rules}
+use Rattle.std.proofs.Common.{[], ◌∷◌, ◌++◌, map, length, filter, take, drop, is_lt, refl, sym, ap, ◌∙◌, zero, subst}
 use Rattle.std.proofs.Common.{arith, length-append, length-drop}
 use Rattle.std.specs.Prelude.{◌==◌, nat_lt, nat_le, ◌||◌, slice_get, slice_set, min}
 use Rattle.std.specs.List.{list_all}
-use Rattle.std.specs.Ordering.{ordering_then}
-use Rattle.std.specs.Cmp.{tied_itself, nat_cmp_total}
 use Rattle.std.proofs.lemmas.Bool.Decides.{nat_tests}
 use Rattle.std.proofs.lemmas.List.{drop-drop}
 use Rattle.values.specs.declared.row.Row.{Row}
@@ -19,7 +17,7 @@ use Rattle.delta.specs.Lent.{change_of}
 use Rattle.model.specs.declared.entry.Change.{Change}
 use Rattle.model.specs.declared.entry.Change.TheVariants.{Ins, Del, Mod}
 use Rattle.model.specs.Effects.{set_cells}
-use Rattle.model.specs.Entries.{entry_at, is_insert, is_delete, is_modify, change_cmp, entry_cmp, are_ordered}
+use Rattle.model.specs.Entries.{entry_at, is_insert, is_delete, is_modify, entry_cmp, are_ordered}
 use Rattle.model.specs.Merging.{changes_at, inserted_rows, left_of, merged_rows_from}
 use Rattle.model.proofs.CallerLemmas.{both, first, second, changes_at_after, merged_rows_from_past, merged_rows_from_nothing}
 use Rattle.merge.specs.Level.{stands_within, IsOver}
@@ -29,6 +27,7 @@ use Rattle.merge.specs.Cursor.{ModifiesNext, KeepsNext}
 use Rattle.merge.proofs.LevelLemmas.{le_of, all_from, all_from-weaken, all_from-ordered, all_after-from, merged_rows_from-gap}
 use Rattle.merge.proofs.CursorLemmas.{same_of, same_itself, lt_of, drop-at, drop-none, cells_at-left, past-weaken, over_from}
 use Rattle.merge.proofs.CursorLemmas.{over_tail, starts-same}
+use Rattle.std.proofs.lemmas.Grind.{common_steps}
 
 -- ---- modifies of one row
 
@@ -40,18 +39,7 @@ module _ (key_cols sid : ℕ) where
   -- what stands after a modify at its SID is one too
   modify_follows : (col : ℕ) (value : Value) (y : Entry) → T (is_lt (entry_cmp key_cols (entry_at sid (Mod col value)) y))
       → T (modifies_at sid y)
-  modify_follows col value y h =
-      elim (y.sid == sid) as (λ b. (y.sid == sid) ≡ b → T (not b || is_modify y.change)) [
-        | true ↦ λ e. at_same y.change
-            (subst (λ r. T (is_lt (ordering_then r (change_cmp key_cols (Mod col value) y.change))))
-            (ap (nat_cmp sid) (same_of y.sid sid e) ∙ tied_itself nat_cmp_total sid) h)
-        | false ↦ λ e. tt
-      ] refl
-    where
-      at_same : (c : Change) → T (is_lt (change_cmp key_cols (Mod col value) c)) → T (is_modify c)
-      at_same (Ins row) t = absurd t
-      at_same (Del key) t = absurd t
-      at_same (Mod other w) t = tt
+  modify_follows col value y h = search rules
 
   modifies_follow : (col : ℕ) (value : Value) (es : List Entry)
       → T (list_all (λ y. is_lt (entry_cmp key_cols (entry_at sid (Mod col value)) y)) es) → T (list_all (modifies_at sid) es)
@@ -63,34 +51,13 @@ module _ (key_cols sid : ℕ) where
   -- past the entries at a SID
   over_past : (end : ℕ) (es : List Entry) → IsOver key_cols sid end es → IsOver key_cols (suc sid) end (entries_past sid es)
   over_past end [] o = record { ordered = tt; within = tt }
-  over_past end (e ∷ es) o =
-      elim (e.sid == sid) as (λ b. (e.sid == sid) ≡ b → IsOver key_cols (suc sid) end (cond b (entries_past sid es) (e ∷ es))) [
-        | true ↦ λ same. over_past end es (over_tail key_cols sid end e es o)
-        | false ↦ λ other.
-            let low = le_of sid e.sid (first (nat_le sid e.sid) _ (first (stands_within sid end e) _ o.within)) in
-            let high : suc sid ≤ e.sid = above e.sid low other in
-            over_from key_cols sid (suc sid) end end (e ∷ es) refl (all_from-ordered key_cols (suc sid) e es o.ordered high) o
-      ] refl
-    where
-      above : (m : ℕ) → sid ≤ m → (m == sid) ≡ false → suc sid ≤ m
-      above m le other = grind (arith, nat_tests)
+  over_past end (e ∷ es) o = grind (arith, common_steps, over_past end es (over_tail key_cols sid end e es o), over_tail, le_of, first, over_from, all_from-ordered, nat_tests)
 
 module _ (sid : ℕ) where
   -- modifies insert nothing
   modifies_insert : (es : List Entry) → T (list_all (modifies_at sid) es) → inserted_rows (changes_at sid es) ≡ []
   modifies_insert [] h = refl
-  modifies_insert (y ∷ es) h =
-      let rest = modifies_insert es (second (modifies_at sid y) _ h) in
-      elim (y.sid == sid) as (λ b. T (not b || is_modify y.change)
-      → inserted_rows (map (λ e. e.change) (cond b (y ∷ filter (λ e. e.sid == sid) es) (filter (λ e. e.sid == sid) es))) ≡ []) [
-        | true ↦ λ t. with_head y.change t rest
-        | false ↦ λ t. rest
-      ] (first (modifies_at sid y) _ h)
-    where
-      with_head : (c : Change) → T (is_modify c) → inserted_rows (changes_at sid es) ≡ [] → inserted_rows (c ∷ changes_at sid es) ≡ []
-      with_head (Ins row) t r = absurd t
-      with_head (Del key) t r = absurd t
-      with_head (Mod col value) t r = r
+  modifies_insert (y ∷ es) h = grind (arith, common_steps, modifies_insert es (second (modifies_at sid y) _ h), second, first)
 
   -- and leave the row with their cells
   modifies_leave : (row : Row) (es : List Entry) → T (list_all (modifies_at sid) es)
@@ -119,17 +86,7 @@ module _ (sid : ℕ) where
   merged_rows_from-past : (base : List Row) (es : List Entry)
       → merged_rows_from (suc sid) base es ≡ merged_rows_from (suc sid) base (entries_past sid es)
   merged_rows_from-past base [] = refl
-  merged_rows_from-past base (y ∷ es) =
-      let rest = merged_rows_from-past base es in
-      let lt : sid < suc sid = omega arith in
-      elim (y.sid == sid) as (λ b. (y.sid == sid) ≡ b
-      → merged_rows_from (suc sid) base (y ∷ es) ≡ merged_rows_from (suc sid) base (cond b (entries_past sid es) (y ∷ es))) [
-        | true ↦ λ e.
-            let here : y.sid ≡ sid = same_of y.sid sid e in
-            (λ i. merged_rows_from (suc sid) base (entry_at (here i) y.change ∷ es))
-            ∙ merged_rows_from_past sid (suc sid) y.change base es lt ∙ rest
-        | false ↦ λ e. refl
-      ] refl
+  merged_rows_from-past base (y ∷ es) = grind (arith, common_steps, merged_rows_from-past base es, same_of, merged_rows_from_past)
 
   -- the next row under modifies
   modified_first : (row : Row) (base : List Row) (es : List Entry) → T (list_all (modifies_at sid) es)
@@ -211,13 +168,7 @@ module _ (c : TreeCursor) where
     some_row : (d : Change) → x.change ≡ d → T (is_modify d) → (count : ℕ) → IsCursor count c → 0 < count
     some_row (Ins row) k t count h = absurd t
     some_row (Del key) k t count h = absurd t
-    some_row (Mod col value) k t count h =
-        let w = subst (λ xs. T (list_all (stands_within c.sid (c.sid + count)) xs)) (left
-        ∙ (λ i. entry_at (next_is.here i) (k i) ∷ rest)) h.over.within in
-        let lt = lt_of c.sid (c.sid + count)
-        (second (nat_le c.sid c.sid) (nat_lt c.sid (c.sid + count))
-        (first (stands_within c.sid (c.sid + count) (entry_at c.sid (Mod col value))) _ w)) in
-        omega arith
+    some_row (Mod col value) k t count h = grind (arith, common_steps, left, lt_of, second, first)
 
     pub modifies_next : (new : TreeCursor) (place : ℕ) → drop place es ≡ entries_past c.sid (entries_left c)
         → (T (list_all (is_past (suc c.sid)) (take c.index es)) → T (list_all (is_past (suc c.sid)) (take place es)))

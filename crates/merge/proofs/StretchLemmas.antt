@@ -1,13 +1,13 @@
 -- Stretches, and what is left past them.
-use Rattle.std.proofs.Common.{◌≡◌, ◌∙◌, ℕ, zero, suc, ◌+◌, ◌-◌, ◌<◌, ◌≤◌, List, [], ◌∷◌, ◌++◌, length, take, drop, get_or, sym, ap}
-use Rattle.std.proofs.Common.{arith, length-take, length-drop}
+use Rattle.std.proofs.Common.{◌≡◌, ◌∙◌, ℕ, zero, suc, ◌+◌, ◌-◌, ◌<◌, ◌≤◌, List, [], ◌∷◌, ◌++◌, length, take, drop, get_or, ap}
+use Rattle.std.proofs.Common.{arith}
 use Rattle.std.proofs.lemmas.Option.{slice_get-get_or}
-use Rattle.values.specs.declared.row.Row.{Row}
 use Rattle.merge.specs.Stretches.{stretch_rows, IsStretch, IsStableStretch}
 use Rattle.merge.specs.declared.stretch.Stretch.{Stretch}
 use Rattle.merge.specs.declared.stretch.Stretch.TheVariants.{Stable, Row as One}
 use Rattle.merge.specs.declared.stretch.StableStretch.{StableStretch}
 use Rattle.merge.proofs.CursorLemmas.{drop-at}
+use Rattle.std.proofs.lemmas.Grind.{common_steps}
 
 pub take_append : {X : Type 0} (n : ℕ) (xs ys : List X) → length xs ≤ n → take n (xs ++ ys) ≡ xs ++ take (n - length xs) ys
 take_append n [] ys le = let e : n ≡ n - 0 = omega arith in ap (λ m. take m ys) e
@@ -19,15 +19,7 @@ take_append (suc n) (x ∷ xs) ys le =
 
 -- a stretch has a row
 pub stretch_some : (depth : ℕ) (stretch : Stretch) → IsStretch depth stretch → 0 < length (stretch_rows stretch)
-stretch_some depth (Stable stretch) h =
-    omega (
-      arith,
-      length-take stretch.len
-          (drop stretch.sid stretch.table.now.rows),
-      length-drop stretch.sid stretch.table.now.rows,
-      h.some,
-      h.within,
-    )
+stretch_some depth (Stable stretch) h = grind (arith, common_steps)
 stretch_some depth (One view) h = omega arith
 
 -- what no layer from a number on modifies, none from the next one on does
@@ -44,15 +36,9 @@ take_next (suc n) x xs h = let e : n ≡ suc n - 1 = omega arith in ap (λ m. x 
 pub stretch_next : (stretch : StableStretch) → IsStableStretch stretch
     → stretch_rows (Stable stretch) ≡ get_or stretch.table.now.rows stretch.sid [] ∷ take (stretch.len - 1)
     (drop (stretch.sid + 1) stretch.table.now.rows)
-stretch_next stretch h =
-    let rows = stretch.table.now.rows in
-    let there : stretch.sid < length rows = omega (arith, h.some, h.within) in
-    ap (take stretch.len) (drop-at rows stretch.sid (get_or rows stretch.sid []) (slice_get-get_or rows stretch.sid [] there))
-    ∙ take_next stretch.len (get_or rows stretch.sid []) (drop (stretch.sid + 1) rows) h.some
+stretch_next stretch h = grind (arith, common_steps, drop-at, slice_get-get_or, take_next)
 
 -- the same, with what is left past it
 pub stretch_first : (stretch : StableStretch) → IsStableStretch stretch
     → stretch_rows (Stable stretch) ≡ get_or stretch.table.now.rows stretch.sid [] ∷ drop 1 (stretch_rows (Stable stretch))
-stretch_first stretch h =
-    let first = get_or stretch.table.now.rows stretch.sid [] in
-    stretch_next stretch h ∙ ap (λ (xs : List Row). first ∷ drop 1 xs) (sym (stretch_next stretch h))
+stretch_first stretch h = grind (arith, common_steps, stretch_next)

@@ -20,6 +20,7 @@ use Rattle.merge.specs.declared.stretch.StableStretch.{StableStretch}
 use Rattle.merge.specs.View.{row_of}
 use Rattle.merge.specs.declared.view.RowView.{RowView}
 use Rattle.merge.proofs.StretchLemmas.{stretch_next}
+use Rattle.std.proofs.lemmas.Grind.{common_steps}
 
 -- a value is of one type
 same_type : (a b : ColumnType) (v : Value) → has_type a v ≡ true → has_type b v ≡ true → a ≡ b
@@ -60,9 +61,7 @@ module _ (ty : ColumnType) (col : ℕ) (stretch : StableStretch) (is : IsStableS
       (subst (All (StandsAt ty col)) (stretch_next stretch is) stand)
 
   shaped : list_fault types first ≡ None
-  shaped =
-      all_shaped stretch.table.now.schema stretch.table.now.rows
-      (no_build_fault stretch.table.now.schema stretch.table.now.rows kept) stretch.sid [] (omega (arith, is.some, is.within))
+  shaped = grind (arith, common_steps, all_shaped, no_build_fault)
 
   pub has_column : col < length types
   has_column = omega (arith, first_stands.wide, width_of types first shaped)

@@ -1,13 +1,13 @@
 -- What the modifies at a SID make of a row, and how a walk over them finds a value.
-use Rattle.std.proofs.Common.{◌≡◌, ℕ, zero, suc, ◌<◌, ◌≤◌, Bool, true, false, cond, not, T, Option, Some, None, List, [], ◌∷◌}
-use Rattle.std.proofs.Common.{◌++◌, map, length, filter, take, drop, get_or, Ordering, Less, Equal, Greater, is_gt, nat_cmp, refl}
+use Rattle.std.proofs.Common.{◌≡◌, ℕ, zero, suc, ◌<◌, ◌≤◌, Bool, true, false, cond, not, T, Option, Some, None, List, [], ◌∷◌, rules}
+use Rattle.std.proofs.Common.{◌++◌, length, take, drop, get_or, Ordering, Less, Equal, Greater, is_gt, nat_cmp, refl}
 use Rattle.std.proofs.Common.{sym, ap, ◌∙◌, subst, arith, take-append-drop, length-set}
 use Rattle.std.specs.Prelude.{◌==◌, slice_get, slice_set, replicate}
 use Rattle.std.proofs.lemmas.Option.{slice_get_within, slice_get-get_or, slice_get-map}
 use Rattle.std.proofs.lemmas.List.{append-nil, drop_all, length-map, length-replicate, get_or-replicate, map-set, take_all}
 use Rattle.std.specs.Bool.{passes}
 use Rattle.std.specs.Ordering.{ordering_then}
-use Rattle.std.specs.Cmp.{ranked, tied_itself, nat_cmp_total}
+use Rattle.std.specs.Cmp.{ranked}
 use Rattle.std.specs.List.{list_all, refill}
 use Rattle.std.specs.Option.{option_map, option_or}
 use Rattle.std.proofs.lemmas.Bool.Decides.{nat_tests}
@@ -17,20 +17,18 @@ use Rattle.values.specs.Shape.{Columns, fits_schema}
 use Rattle.values.specs.declared.row.Row.{Row}
 use Rattle.values.specs.declared.value.Value.{Value}
 use Rattle.model.specs.declared.entry.Entry.{Entry}
-use Rattle.model.specs.declared.entry.Change.{Change}
-use Rattle.model.specs.declared.entry.Change.TheVariants.{Ins, Del, Mod}
 use Rattle.model.specs.Effects.{Cells, set_cells}
 use Rattle.model.specs.Entries.{are_ordered}
-use Rattle.model.specs.Merging.{changes_at}
 use Rattle.model.specs.Table.{table_of}
-use Rattle.model.proofs.CallerLemmas.{first, second, changes_at_other, changes_at_after}
+use Rattle.model.proofs.CallerLemmas.{first, second, changes_at_after}
 use Rattle.delta.specs.Search.{base_cmp, stands_before, IsSplit}
 use Rattle.stable.specs.Stable.{Stable, table_in, IsStable}
-use Rattle.merge.specs.View.{modified_cells, modified_values, cells_at, layer_cells, last_cell, source_row, read_row, write_row, row_of}
+use Rattle.merge.specs.View.{modified_cells, modified_values, cells_at, layer_cells, last_cell, source_row, row_of}
 use Rattle.merge.specs.View.{values_of, with_cells}
 use Rattle.merge.specs.declared.view.RowView.{RowView}
 use Rattle.merge.proofs.LevelLemmas.{all_from-ordered, all_after-from}
 use Rattle.delta.proofs.CallerLemmas.{length-fits}
+use Rattle.std.proofs.lemmas.Grind.{common_steps}
 
 -- ---- cells
 
@@ -57,11 +55,7 @@ or_else-twice (Some value) b c = refl
 pub last_cell-so_far : (col : ℕ) (so_far : Option Value) (cells : Cells)
     → last_cell col so_far cells ≡ or_else (last_cell col None cells) so_far
 last_cell-so_far col so_far [] = refl
-last_cell-so_far col so_far (c ∷ cells) =
-    last_cell-so_far col (cond (c.0 == col) (Some c.1) so_far) cells
-    ∙ ap (or_else (last_cell col None cells)) (sym (or_else-cond (c.0 == col) c.1 so_far))
-    ∙ sym (or_else-twice (last_cell col None cells) (cond (c.0 == col) (Some c.1) None) so_far)
-    ∙ ap (λ o. or_else o so_far) (sym (last_cell-so_far col (cond (c.0 == col) (Some c.1) None) cells))
+last_cell-so_far col so_far (c ∷ cells) = grind (arith, common_steps, last_cell-so_far col (cond (c.0 == col) (Some c.1) so_far) cells, last_cell-so_far col (cond (c.0 == col) (Some c.1) None) cells, or_else-cond, or_else-twice)
 
 pub same_next : (i j : ℕ) → (i == j) ≡ (suc i == suc j)
 same_next i j = grind (arith, nat_tests)
@@ -120,32 +114,17 @@ slice_get-with_cells (c ∷ cells) values col so_far h =
 
 module _ (v : RowView) where
   pub length-row_of : length (row_of v) ≡ length (source_row v.source)
-  length-row_of =
-      length-set_cells (layer_cells v.trans) (write_row v) ∙ length-set_cells (layer_cells v.write) (read_row v)
-      ∙ length-set_cells (layer_cells v.read) (source_row v.source)
+  length-row_of = omega (arith, length-set_cells)
 
   -- the value of a column is that of the highest layer that modifies it
   pub slice_get-row_of : (col : ℕ) (trans write read : Option Value) → col < length (row_of v)
       → last_cell col None (layer_cells v.trans) ≡ trans → last_cell col None (layer_cells v.write) ≡ write
       → last_cell col None (layer_cells v.read) ≡ read
       → slice_get (row_of v) col ≡ or_else trans (or_else write (or_else read (slice_get (source_row v.source) col)))
-  slice_get-row_of col trans write read lt in_trans in_write in_read =
-      let l = length-row_of in
-      let l1 = length-set_cells (layer_cells v.read) (source_row v.source) in
-      let l2 = length-set_cells (layer_cells v.write) (read_row v) in
-      let wide_source : col < length (source_row v.source) = omega arith in
-      let wide_read : col < length (read_row v) = omega arith in
-      let wide_write : col < length (write_row v) = omega arith in
-      slice_get-set_cells (layer_cells v.trans) (write_row v) col wide_write
-      ∙ (λ i. or_else (in_trans i) (slice_get-set_cells (layer_cells v.write) (read_row v) col wide_read i))
-      ∙ (λ i. or_else trans (or_else (in_write i) (slice_get-set_cells (layer_cells v.read) (source_row v.source) col wide_source i)))
-      ∙ ap (λ o. or_else trans (or_else write (or_else o (slice_get (source_row v.source) col)))) in_read
+  slice_get-row_of col trans write read lt in_trans in_write in_read = grind (arith, common_steps, length-row_of, length-set_cells, slice_get-set_cells)
 
   pub length-modified : length (modified_values v) ≡ length (row_of v)
-  length-modified =
-      let no : Option Value = None in
-      length-with_cells (layer_cells v.trans) _ ∙ length-with_cells (layer_cells v.write) _ ∙ length-with_cells (layer_cells v.read) _
-      ∙ length-replicate (length (row_of v)) no
+  length-modified = grind (arith, common_steps, length-with_cells, length-replicate)
 
   -- and so is what is modified of it, by column
   pub slice_get-modified : (col : ℕ) (modified : Option Value) → col < length (row_of v) → slice_get (modified_values v) col ≡ Some modified
@@ -177,35 +156,13 @@ found_in col cells found other is same = sym is ∙ ap (option_map value_of) sam
 
 -- ---- the modifies at a SID, by a walk
 
-same_of : (a b : ℕ) → (a == b) ≡ true → a ≡ b
-same_of a b h = grind (arith, nat_tests)
-
-same_itself : (a : ℕ) → (a == a) ≡ true
-same_itself a = grind (arith, nat_tests)
-
-tied_of : (sid other : ℕ) → other ≡ sid → nat_cmp sid other ≡ Equal
-tied_of sid other e = ap (nat_cmp sid) e ∙ tied_itself nat_cmp_total sid
-
 module _ (sid : ℕ) where
   abbrev before_base : Entry → Bool
   before_base = stands_before base_cmp sid
 
   -- what stands before the base row's changes is no modify of it
   no_modify : (x : Entry) (es : List Entry) → T (before_base x) → cells_at sid (x ∷ es) ≡ cells_at sid es
-  no_modify x es h = by (x.sid == sid) refl x.change refl
-    where
-      by : (b : Bool) → (x.sid == sid) ≡ b → (c : Change) → x.change ≡ c → cells_at sid (x ∷ es) ≡ cells_at sid es
-      by false e c k = ap modified_cells (changes_at_other sid x es e)
-      by true e (Ins row) k =
-          ap (λ b. modified_cells
-          (map (λ (e : Entry). e.change) (cond b (x ∷ filter (λ e. e.sid == sid) es) (filter (λ e. e.sid == sid) es)))) e
-          ∙ ap (λ c. modified_cells (c ∷ changes_at sid es)) k
-      by true e (Del key) k =
-          absurd (subst (λ r. T (is_gt (ordering_then r Equal))) (tied_of sid x.sid (same_of x.sid sid e))
-          (subst (λ c. T (is_gt (ordering_then (nat_cmp sid x.sid) (base_cmp c)))) k h))
-      by true e (Mod col value) k =
-          absurd (subst (λ r. T (is_gt (ordering_then r Equal))) (tied_of sid x.sid (same_of x.sid sid e))
-          (subst (λ c. T (is_gt (ordering_then (nat_cmp sid x.sid) (base_cmp c)))) k h))
+  no_modify x es h = search rules
 
   no_modifies : (xs ys : List Entry) → T (list_all before_base xs) → cells_at sid (xs ++ ys) ≡ cells_at sid ys
   no_modifies [] ys h = refl
@@ -235,62 +192,22 @@ pub last_cell-here : (col sid : ℕ) (x : Entry) (es : List Entry) (given found 
     → option_map value_of given ≡ last_cell col None (modified_cells (x.change ∷ []))
     → last_cell col (option_map value_of (option_or given found)) (cells_at sid es) ≡ last_cell col (option_map value_of found)
     (cells_at sid (x ∷ es))
-last_cell-here col sid x es given found here is =
-    ap (λ o. last_cell col o (cells_at sid es)) (option_or-or_else given found ∙ ap (λ o. or_else o (option_map value_of found)) is)
-    ∙ past x.change
-    ∙ ap (λ b. last_cell col (option_map value_of found)
-    (modified_cells
-    (map (λ (e : Entry). e.change) (cond b (x ∷ filter (λ e. e.sid == sid) es) (filter (λ e. e.sid == sid) es)))))
-    (sym (ap (λ k. k == sid) here ∙ same_itself sid))
-  where
-    option_or-or_else : (a b : Option ValueRef)
-        → option_map value_of (option_or a b) ≡ or_else (option_map value_of a) (option_map value_of b)
-    option_or-or_else None b = refl
-    option_or-or_else (Some value) b = refl
-
-    past : (c : Change)
-        → last_cell col (or_else (last_cell col None (modified_cells (c ∷ []))) (option_map value_of found))
-        (cells_at sid es) ≡ last_cell col (option_map value_of found) (modified_cells (c ∷ changes_at sid es))
-    past (Ins row) = refl
-    past (Del key) = refl
-    past (Mod other value) = ap (λ o. last_cell col o (cells_at sid es)) (or_else-cond (other == col) value (option_map value_of found))
+last_cell-here col sid x es given found here is = search rules
 
 -- what is found in a column's place
 pub value_in_place : (values : List (Option ValueRef)) (modified : List (Option Value)) (col : ℕ) → values_of values ≡ modified
     → col < length modified → (col < length values) × (slice_get modified col ≡ Some (option_map value_of (get_or values col None)))
-value_in_place values modified col same lt =
-    let within : col < length values = omega (arith, ap length same, length-map values (option_map value_of)) in (
-      within,
-      ap (λ xs. slice_get xs col) (sym same) ∙ slice_get-map (option_map value_of) values col
-          ∙ ap (option_map (option_map value_of)) (slice_get-get_or values col None within),
-    )
+value_in_place values modified col same lt = grind (arith, common_steps, length-map, slice_get-map, slice_get-get_or)
 
 -- one value more in its place, where the places were lent for writing
 pub values_of-set : (values : List (Option ValueRef)) (lent : List (Option ValueRef)) (col : ℕ) (value : ValueRef) → lent ≡ values
     → values_of (refill (length values) values (slice_set lent col (Some value))) ≡ slice_set (values_of values) col (Some (value_of value))
-values_of-set values lent col value same =
-    let set : List (Option ValueRef) = slice_set values col (Some value) in
-    let long = length-set values col (Some value) in
-    let written : refill (length values) values set ≡ set =
-    ap (λ xs. take (length values) (set ++ xs)) (drop_all (length set) values (omega arith))
-    ∙ ap (take (length values)) (append-nil set) ∙ take_all (length values) set (omega arith) in
-    ap (λ xs. values_of (refill (length values) values (slice_set xs col (Some value)))) same ∙ ap values_of written
-    ∙ map-set (option_map value_of) values col (Some value)
+values_of-set values lent col value same = grind (arith, common_steps, length-set, drop_all, append-nil, take_all, map-set)
 
 -- what is modified so far, past an entry at the SID
 pub with_cells-here : (sid : ℕ) (x : Entry) (es : List Entry) (values : List (Option Value)) → x.sid ≡ sid
     → with_cells (cells_at sid es) (with_cells (modified_cells (x.change ∷ [])) values) ≡ with_cells (cells_at sid (x ∷ es)) values
-with_cells-here sid x es values here =
-    past x.change
-    ∙ ap (λ b. with_cells
-    (modified_cells (map (λ (e : Entry). e.change) (cond b (x ∷ filter (λ e. e.sid == sid) es) (filter (λ e. e.sid == sid) es)))) values)
-    (sym (ap (λ k. k == sid) here ∙ same_itself sid))
-  where
-    past : (c : Change) → with_cells (cells_at sid es) (with_cells (modified_cells (c ∷ [])) values)
-        ≡ with_cells (modified_cells (c ∷ changes_at sid es)) values
-    past (Ins row) = refl
-    past (Del key) = refl
-    past (Mod other value) = refl
+with_cells-here sid x es values here = search rules
 
 -- ---- rows of a stable table
 

@@ -1,4 +1,4 @@
-use Rattle.std.proofs.Common.{◌∙◌, T, not, None, List, take, drop, ap, sym, subst, take-append-drop}
+use Rattle.std.proofs.Common.{◌∙◌, T, not, None, List, take, drop, ap, sym, subst, take-append-drop, arith}
 use Rattle.std.specs.Bool.{passes}
 use Rattle.std.specs.List.{list_all}
 use Rattle.std.specs.Option.{option_map}
@@ -11,6 +11,7 @@ use Rattle.model.proofs.CallerLemmas.{first, second}
 use Rattle.merge.specs.View.{cells_at, last_cell}
 use Rattle.merge.proofs.ViewLemmas.{cells_at-split, cells_at-end, last_cell-here}
 use Rattle.merge.proofs.view.modified.Goals as goal
+use Rattle.std.proofs.lemmas.Grind.{common_steps}
 
 pub loop-entry-init : goal.loop-entry-init
 loop-entry-init c =
@@ -30,17 +31,7 @@ loop-entry-init c =
 
 -- nothing is left to find past an entry at another SID
 pub returns-then-sid : goal.returns-then-sid
-returns-then-sid c =
-    let t = c.args.tree.now in
-    let x = c.in-Some.entry.now in
-    let rest = c.next.new.self in
-    let is = c.in-Some.ensures.steps in
-    let inv = c.loop-entry.invariant in
-    let end = cells_at-end t.key_cols c.args.sid x rest (subst (λ (es : List Entry). T (are_ordered t.key_cols es)) is inv.0)
-    (first (not (stands_before base_cmp c.args.sid x)) _
-    (subst (λ (es : List Entry). T (list_all (λ e. not (stands_before base_cmp c.args.sid e)) es)) is inv.1))
-    (λ e. c.if-sid.true (c.sid.ensures ∙ e)) in
-    sym (ap (last_cell c.args.col (option_map value_of c.loop-entry.found)) (ap (cells_at c.args.sid) is ∙ end)) ∙ inv.2
+returns-then-sid c = grind (arith, common_steps, c.in-Some.ensures.steps, c.loop-entry.invariant, c.if-sid.true, c.sid.ensures, cells_at-end, first)
 
 pub loop-entry-preserved : goal.loop-entry-preserved
 loop-entry-preserved c =

@@ -1,4 +1,4 @@
-use Rattle.std.proofs.Common.{◌∙◌, T, not, List, take, drop, ap, sym, subst, take-append-drop}
+use Rattle.std.proofs.Common.{◌∙◌, T, not, List, take, drop, ap, sym, subst, take-append-drop, arith}
 use Rattle.std.specs.Bool.{passes}
 use Rattle.std.specs.List.{list_all}
 use Rattle.model.specs.declared.entry.Entry.{Entry}
@@ -9,6 +9,7 @@ use Rattle.model.proofs.CallerLemmas.{first, second}
 use Rattle.merge.specs.View.{cells_at, values_of, with_cells}
 use Rattle.merge.proofs.ViewLemmas.{cells_at-split, cells_at-end, with_cells-here}
 use Rattle.merge.proofs.view.put_values.Goals as goal
+use Rattle.std.proofs.lemmas.Grind.{common_steps}
 
 pub loop-entry-init : goal.loop-entry-init
 loop-entry-init c =
@@ -29,18 +30,7 @@ loop-entry-init c =
 
 -- nothing is left to put in past an entry at another SID
 pub returns-then-sid : goal.returns-then-sid
-returns-then-sid c =
-    let t = c.args.tree.now in
-    let sid = c.args.sid in
-    let x = c.in-Some.entry.now in
-    let rest = c.next.new.self in
-    let is = c.in-Some.ensures.steps in
-    let inv = c.loop-entry.invariant in
-    let end = cells_at-end t.key_cols sid x rest (subst (λ (es : List Entry). T (are_ordered t.key_cols es)) is inv.0)
-    (first (not (stands_before base_cmp sid x)) _
-    (subst (λ (es : List Entry). T (list_all (λ e. not (stands_before base_cmp sid e)) es)) is inv.1))
-    (λ e. c.if-sid.true (c.sid.ensures ∙ e)) in
-    sym (ap (λ cells. with_cells cells (values_of c.loop-entry.values.items)) (ap (cells_at sid) is ∙ end)) ∙ inv.2
+returns-then-sid c = grind (arith, common_steps, c.in-Some.ensures.steps, c.loop-entry.invariant, c.if-sid.true, c.sid.ensures, cells_at-end, first)
 
 pub loop-entry-preserved : goal.loop-entry-preserved
 loop-entry-preserved c =

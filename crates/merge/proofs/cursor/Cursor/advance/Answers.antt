@@ -1,12 +1,6 @@
-use Rattle.std.proofs.Common.{◌≡◌, ◌+◌, ap, arith}
-use Rattle.merge.specs.Cursor.{TreeCursor}
+use Rattle.std.proofs.Common.{◌+◌}
 use Rattle.merge.proofs.cursor.Cursor.advance.Goals as goal
 use Rattle.delta.proofs.CallerLemmas.{next_is}
-
-pub overflow_add-self : goal.overflow_add-self
-overflow_add-self c =
-    let index : c.self.inside.index ≡ c.args.self.now.index = ap (λ (v : TreeCursor). v.index) c.self.view_is in
-    omega (arith, index, c.requires.some, c.requires.lawful.counted)
 
 pub invariant_of-self : goal.invariant_of-self
 invariant_of-self c =

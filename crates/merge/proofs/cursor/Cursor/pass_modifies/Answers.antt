@@ -7,34 +7,16 @@ use Rattle.merge.specs.View.{modified_cells}
 use Rattle.merge.proofs.CursorLemmas.{drop-at, place_fits, placed_at}
 use Rattle.merge.proofs.StepLemmas.{cells_at-passed}
 use Rattle.merge.proofs.cursor.Cursor.pass_modifies.Goals as goal
+use Rattle.std.proofs.lemmas.Grind.{common_steps}
 
 pub overflow_cast-sid : goal.overflow_cast-sid
-overflow_cast-sid c =
-    let old = c.args.self.now in
-    omega (
-      arith,
-      c.sid-sid.ensures,
-      c.requires.next.here,
-      placed_at old.tree.key_cols old.tree.entries old.index c.args.entry.now c.requires.is.1.lawful c.requires.next.next,
-    )
+overflow_cast-sid c = grind (arith, common_steps, c.sid-sid.ensures, c.requires.next.here, c.requires.is.1.lawful, c.requires.next.next, placed_at)
 
 pub overflow_add-first : goal.overflow_add-first
-overflow_add-first c =
-    let old = c.args.self.now in
-    omega (
-      arith,
-      c.index-first.ensures,
-      place_fits old.tree.key_cols old.tree.entries old.index c.args.entry.now c.requires.is.1.lawful c.requires.next.next,
-    )
+overflow_add-first c = grind (arith, common_steps, c.index-first.ensures, c.requires.is.1.lawful, c.requires.next.next, place_fits)
 
 pub overflow_add-first-in-Some-1 : goal.overflow_add-first-in-Some-1
-overflow_add-first-in-Some-1 c =
-    let old = c.args.self.now in
-    omega (
-      arith,
-      c.index-first.ensures,
-      place_fits old.tree.key_cols old.tree.entries old.index c.args.entry.now c.requires.is.1.lawful c.requires.next.next,
-    )
+overflow_add-first-in-Some-1 c = grind (arith, common_steps, c.index-first.ensures, c.requires.is.1.lawful, c.requires.next.next, place_fits)
 
 pub returns-then-last-first-clause-passed : goal.returns-then-last-first-clause-passed
 returns-then-last-first-clause-passed c =

@@ -6,11 +6,10 @@ use Rattle.merge.specs.Cursor.{TreeCursor, entries_left, entries_past, is_past}
 use Rattle.merge.proofs.CursorLemmas.{below_past, entries_past-at, one_past}
 use Rattle.merge.proofs.StepLemmas.{modifies_next}
 use Rattle.merge.proofs.cursor.Cursor.pass_row.Goals as goal
+use Rattle.std.proofs.lemmas.Grind.{common_steps}
 
 pub advance-requires-clause-some : goal.advance-requires-clause-some
-advance-requires-clause-some c =
-    let old = c.args.self.now in
-    slice_get_within old.tree.entries old.index c.requires.next.0 c.requires.next.1.next
+advance-requires-clause-some c = grind (arith, common_steps, c.requires.next.0, c.requires.next.1.next, slice_get_within)
 
 pub returns-clause-passed : goal.returns-clause-passed
 returns-clause-passed c =

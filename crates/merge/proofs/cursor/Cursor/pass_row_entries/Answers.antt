@@ -6,6 +6,7 @@ use Rattle.delta.specs.Tree.{Tree}
 use Rattle.merge.specs.Cursor.{TreeCursor, entries_left, entries_past, is_past}
 use Rattle.merge.proofs.CursorLemmas.{one_past, below_past, entries_past-at, entries_past-other, entries_past-none}
 use Rattle.merge.proofs.cursor.Cursor.pass_row_entries.Goals as goal
+use Rattle.std.proofs.lemmas.Grind.{common_steps}
 
 pub loop-entry-preserved : goal.loop-entry-preserved
 loop-entry-preserved c =
@@ -31,17 +32,7 @@ loop-entry-preserved c =
     }
 
 pub returns-then-sid-clause-rest : goal.returns-then-sid-clause-rest
-returns-then-sid-clause-rest c =
-    let old = c.args.self.now in
-    let here = c.loop-entry.self in
-    let inv = c.loop-entry.invariant in
-    let x = c.in-Some.entry.now in
-    let at = sym c.next_entry.ensures ∙ ap option_copied c.in-Some.is in
-    let other : x.sid ≡ old.sid → ⊥ = λ e. c.if-sid.true (c.sid.ensures ∙ e ∙ sym inv.sid ∙ sym c.sid-in-Some.ensures) in
-    sym (entries_past-other old.sid here.index here.tree.entries x at other) ∙ inv.rest
+returns-then-sid-clause-rest c = grind (arith, common_steps, c.loop-entry.invariant, c.next_entry.ensures, c.in-Some.is, c.if-sid.true, c.sid.ensures, c.sid-in-Some.ensures, entries_past-other)
 
 pub returns-in_default-clause-rest : goal.returns-in_default-clause-rest
-returns-in_default-clause-rest c =
-    let here = c.loop-entry.self in
-    let at = sym c.next_entry.ensures ∙ ap option_copied c.in_default.is in
-    sym (entries_past-none c.args.self.now.sid here.index here.tree.entries at) ∙ c.loop-entry.invariant.rest
+returns-in_default-clause-rest c = grind (arith, common_steps, c.next_entry.ensures, c.in_default.is, c.loop-entry.invariant.rest, entries_past-none)

@@ -1,17 +1,14 @@
-use Rattle.std.proofs.Common.{◌≡◌, ℕ, ◌+◌, ◌<◌, ◌^◌, false, List, [], ◌++◌, length, drop, get_or, take, refl, sym, ap, subst, ◌∙◌, arith}
+use Rattle.std.proofs.Common.{◌≡◌, ℕ, ◌+◌, ◌<◌, ◌^◌, List, [], ◌++◌, length, drop, get_or, take, refl, sym, ap, subst, ◌∙◌, arith, rules}
 use Rattle.std.proofs.Common.{append_assoc, length-append}
 use Rattle.std.specs.List.{All}
-use Rattle.std.proofs.lemmas.List.{append-nil, length-map}
+use Rattle.std.proofs.lemmas.List.{length-map}
 use Rattle.std.proofs.lemmas.List.FromFn.{length-map-range_with_len, get_or-map-range_with_len}
 use Rattle.values.specs.Shape.{Columns}
 use Rattle.values.specs.declared.row.Row.{Row}
-use Rattle.values.specs.declared.value.ColumnType.{ColumnType}
 use Rattle.values.specs.declared.value.ColumnType.TheVariants as column
-use Rattle.values.specs.declared.value.Value.TheVariants.{Bool as Truth}
 use Rattle.blocks.specs.Column.{Column}
 use Rattle.stable.specs.Rows.{column_at, first_columns, row_count, rows_of}
 use Rattle.stable.specs.Stable.{IsStable}
-use Rattle.merge.specs.Columns.{grown}
 use Rattle.merge.specs.Fitting.{StandsAt}
 use Rattle.merge.specs.Image.{image_rows}
 use Rattle.merge.specs.Stretches.{stretch_rows}
@@ -20,16 +17,14 @@ use Rattle.merge.proofs.BetweenLemmas.{between_stable}
 use Rattle.merge.proofs.ColumnsLemmas.{grown-columns}
 use Rattle.merge.proofs.TableLemmas.{rows_stand, left_stand, right_stand}
 use Rattle.merge.proofs.layers.Layers.table_between.Goals as goal
+use Rattle.std.proofs.lemmas.Grind.{common_steps}
 
 -- the rows of a stretch stand in each column of those so far, and fit beside them
 module _ (schema : Columns) (rows seen own rest : List Row) (columns : List Column)
     (table : IsStable (record { schema = schema; rows = rows }))
     (is : seen ++ (own ++ rest) ≡ rows) (at : columns ≡ first_columns schema.types seen (length schema.types)) where
   column_is : (col : ℕ) (d : Column) → col < length columns → get_or columns col d ≡ column_at schema.types seen col
-  column_is col d lt =
-      ap (λ (cs : List Column). get_or cs col d) at
-      ∙ get_or-map-range_with_len (column_at schema.types seen) 0 (length schema.types) col col d
-      (omega (arith, ap length at, length-map-range_with_len (column_at schema.types seen) 0 (length schema.types))) (omega arith)
+  column_is col d lt = grind (arith, common_steps, get_or-map-range_with_len, length-map-range_with_len)
 
   stands : (col : ℕ) (d : Column) → col < length columns → All (StandsAt (get_or columns col d).ty col) own
   stands col d lt =
@@ -42,24 +37,7 @@ module _ (schema : Columns) (rows seen own rest : List Row) (columns : List Colu
       (left_stand ty col own rest (own ++ rest) refl right)
 
   fits : (col : ℕ) (d : Column) → col < length columns → length (get_or columns col d).values + length own < 2 ^ 63
-  fits col d lt =
-      let few = table.few in
-      omega (
-        arith,
-        ap (λ (x : Column). length x.values) (column_is col d lt),
-        length-map seen (λ (row : Row). get_or row col (Truth false)),
-        ap (λ (rs : List Row). length rs) is,
-        length-append seen (own ++ rest),
-        length-append own rest,
-      )
-
-pub loop-stretch-init : goal.loop-stretch-init
-loop-stretch-init c = (
-  [],
-  c.into_iter-stretch-iterator.ensures.into_iter_gives ∙ c.stretches-stretch-items.ensures,
-  c.in_ok-columns.ensures ∙ ap (λ (types : List ColumnType). first_columns types [] (length types))
-      (c.types.ensures ∙ ap (λ (x : Columns). x.types) c.schema-schema.ensures),
-)
+  fits col d lt = grind (arith, common_steps, column_is, length-map, length-append)
 
 pub add_to_each-requires-clause-stand : goal.add_to_each-requires-clause-stand
 add_to_each-requires-clause-stand c =
@@ -82,14 +60,7 @@ add_to_each-requires-clause-room c =
     (ap (λ (rs : List Row). inv.0 ++ rs) (sym c.in-Some.ensures.steps.0) ∙ inv.1) inv.2
 
 pub loop-stretch-preserved : goal.loop-stretch-preserved
-loop-stretch-preserved c =
-    let inv = c.loop-stretch.invariant in
-    let types = c.args.self.now.schema.types in
-    let own = stretch_rows c.in-Some.stretch in (
-      inv.0 ++ own,
-      append_assoc inv.0 own c.next.new.self ∙ ap (λ (rs : List Row). inv.0 ++ rs) (sym c.in-Some.ensures.steps.0) ∙ inv.1,
-      c.in_ok-add_to_each.ensures ∙ ap (λ (cs : List Column). grown 0 cs own) inv.2 ∙ grown-columns types inv.0 own 0 (length types),
-    )
+loop-stretch-preserved c = grind (arith, common_steps, c.loop-stretch.invariant, c.in-Some.ensures.steps.0, c.in_ok-add_to_each.ensures, append_assoc, grown-columns)
 
 -- the columns are those of all rows
 abbrev IsAll : Columns → List Row → List Column → Type 0
@@ -97,9 +68,7 @@ IsAll schema rows columns = columns ≡ first_columns schema.types rows (length 
 
 ended : (rows seen rest : List Row) (schema : Columns) (columns : List Column) → rest ≡ [] → seen ++ rest ≡ rows
     → columns ≡ first_columns schema.types seen (length schema.types) → IsAll schema rows columns
-ended rows seen rest schema columns none is at =
-    at ∙ ap (λ (rs : List Row). first_columns schema.types rs (length schema.types))
-    (sym (append-nil seen) ∙ ap (λ (rs : List Row). seen ++ rs) (sym none) ∙ is)
+ended rows seen rest schema columns none is at = search rules
 
 pub of_columns-requires-clause-typed : goal.of_columns-requires-clause-typed
 of_columns-requires-clause-typed c =

@@ -2,9 +2,8 @@ use Rattle.std.proofs.Common.{◌≡◌, ◌∙◌, List, length, sym, ap, subst
 use Rattle.values.specs.declared.row.Row.{Row as Cells}
 use Rattle.merge.specs.Cursor.{TreeCursor, IsCursor, moved, rows_left}
 use Rattle.merge.specs.ColumnStretches.{PassesRow}
-use Rattle.merge.specs.View.{layer_cells, layer_number}
-use Rattle.merge.proofs.OverLemmas.{left_alike-row}
-use Rattle.merge.proofs.ColumnStretchLemmas.{row-kept, row-modified, cursor-kept_row}
+use Rattle.merge.specs.View.{layer_number}
+use Rattle.merge.proofs.ColumnStretchLemmas.{row-kept, cursor-kept_row}
 use Rattle.merge.proofs.level.LevelRows.pass_row.Goals as goal
 
 pub returns-in-Kept-clause-rows : goal.returns-in-Kept-clause-rows
@@ -37,37 +36,6 @@ returns-in-Kept-clause-sound g c =
 
 -- ---- over other stable rows
 
-pub returns-in-Inserted-clause-over : goal.returns-in-Inserted-clause-over
-returns-in-Inserted-clause-over g c = λ base alike.
-    let below = g.B.Rows.over base c.skip_deleted.new.self.below in
-    record {
-      row = c.in-Inserted.field-0.now;
-      rows = sym (c.skip_deleted.ensures.over base alike.0 alike.1) ∙ c.in-Inserted.ensures.step.rows below;
-    }
-
-pub returns-in-Modified-clause-over : goal.returns-in-Modified-clause-over
-returns-in-Modified-clause-over g c = λ base alike.
-    let skipped = c.skip_deleted.new.self in
-    let same = c.skip_deleted.ensures.alike base alike.0 alike.1 in
-    let below = g.B.Rows.over base skipped.below in
-    let left = g.B.Rows.over base c.pass_row.new.self in
-    let stands = subst (λ n. IsCursor n skipped.cursor) (sym same.1) c.skip_deleted.ensures.cursor in
-    subst (λ (xs : List Cells). PassesRow xs (rows_left c.step.new.self left)) (c.skip_deleted.ensures.over base alike.0 alike.1)
-    (row-modified below left (c.pass_row.ensures.over base same.0) (layer_cells c.in-Modified.field-0) skipped.cursor c.step.new.self
-    c.in-Modified.ensures.step stands)
-
-pub returns-in-Modified-clause-alike : goal.returns-in-Modified-clause-alike
-returns-in-Modified-clause-alike g c = λ base alike.
-    let skipped = c.skip_deleted.new.self in
-    let same = c.skip_deleted.ensures.alike base alike.0 alike.1 in (
-      c.pass_row.ensures.alike base same.0,
-      left_alike-row (g.B.Rows.rows skipped.below) (g.B.Rows.rows c.pass_row.new.self) (g.B.Rows.over base skipped.below)
-          (g.B.Rows.over base c.pass_row.new.self)
-          same.1
-          c.pass_row.ensures.rows
-          (c.pass_row.ensures.over base same.0),
-    )
-
 pub returns-in-Kept-clause-over : goal.returns-in-Kept-clause-over
 returns-in-Kept-clause-over g c = λ base alike.
     let skipped = c.skip_deleted.new.self in
@@ -84,15 +52,3 @@ returns-in-Kept-clause-over g c = λ base alike.
     moves
     (subst (λ (xs : List Cells). PassesRow xs (rows_left (moved 1 skipped.cursor) left)) (c.skip_deleted.ensures.over base alike.0 alike.1)
     passed)
-
-pub returns-in-Kept-clause-alike : goal.returns-in-Kept-clause-alike
-returns-in-Kept-clause-alike g c = λ base alike.
-    let skipped = c.skip_deleted.new.self in
-    let same = c.skip_deleted.ensures.alike base alike.0 alike.1 in (
-      c.pass_row-in-Kept.ensures.alike base same.0,
-      left_alike-row (g.B.Rows.rows skipped.below) (g.B.Rows.rows c.pass_row-in-Kept.new.self) (g.B.Rows.over base skipped.below)
-          (g.B.Rows.over base c.pass_row-in-Kept.new.self)
-          same.1
-          c.pass_row-in-Kept.ensures.rows
-          (c.pass_row-in-Kept.ensures.over base same.0),
-    )

@@ -7,21 +7,14 @@ use Rattle.merge.specs.View.{layer_cells}
 use Rattle.merge.proofs.FillingLemmas.{all_filled, all_skipped, fills_also, fills_below, fills_given, fills_inserted, room_first, room_one}
 use Rattle.merge.proofs.ViewLemmas.{found_in}
 use Rattle.merge.proofs.numbers.LevelNumbers.fill_next.Goals as goal
+use Rattle.std.proofs.lemmas.Grind.{common_steps}
 
 pub returns-in-Inserted-clause-column : goal.returns-in-Inserted-clause-column
 returns-in-Inserted-clause-column g c = λ ty column.
     (c.pass_deleted.ensures.column ty c.args.col column.0, c.pass_deleted.ensures.wide c.args.col column.1)
 
 pub returns-in-Inserted-clause-numbers : goal.returns-in-Inserted-clause-numbers
-returns-in-Inserted-clause-numbers g c =
-    let skipped = c.pass_deleted.new.self in
-    let below = g.B.Numbers.left skipped.below in
-    let col = c.args.col in
-    let row = c.in-Inserted.row.now in
-    let filled = fills_inserted col row skipped.cursor c.step.new.self below c.in-Inserted.ensures.step in
-    fills_also col (rows_left skipped.cursor below) _ (rows_left c.step.new.self below) _ _ c.pass_deleted.ensures.rows
-    (ap (λ (n : ℤ). n ∷ []) (sym c.number_in.ensures) ∙ sym (room_one c.args.out.now c.number_in.result (search rules) c.requires.some))
-    filled
+returns-in-Inserted-clause-numbers g c = grind (arith, common_steps, c.in-Inserted.ensures.step, c.pass_deleted.ensures.rows, c.number_in.ensures, c.requires.some, fills_inserted, fills_also, room_one)
 
 pub returns-in-Some-clause-column : goal.returns-in-Some-clause-column
 returns-in-Some-clause-column g c = λ ty column.

@@ -9,21 +9,14 @@ use Rattle.merge.specs.View.{layer_cells}
 use Rattle.merge.proofs.FillingLemmas.{all_filled, all_skipped, fills_also, fills_below, fills_given, fills_inserted}
 use Rattle.merge.proofs.ViewLemmas.{found_in}
 use Rattle.merge.proofs.numbers.LevelNumbers.next_run.Goals as goal
+use Rattle.std.proofs.lemmas.Grind.{common_steps}
 
 pub returns-in-Inserted-clause-column : goal.returns-in-Inserted-clause-column
 returns-in-Inserted-clause-column g c =
     (c.pass_deleted.ensures.column column.Int c.args.col c.requires.column.0, c.pass_deleted.ensures.wide c.args.col c.requires.column.1)
 
 pub returns-in-Inserted-clause-numbers : goal.returns-in-Inserted-clause-numbers
-returns-in-Inserted-clause-numbers g c =
-    let skipped = c.pass_deleted.new.self in
-    let below = g.B.Numbers.left skipped.below in
-    let col = c.args.col in
-    let row = c.in-Inserted.row.now in
-    let filled = fills_inserted col row skipped.cursor c.step.new.self below c.in-Inserted.ensures.step in
-    fills_also col (rows_left skipped.cursor below) _ (rows_left c.step.new.self below) _ _ c.pass_deleted.ensures.rows
-    (ap (λ (n : ℤ). n ∷ []) (sym c.number_in.ensures ∙ sym (to_z-of_z w64 c.number_in.result (search rules))))
-    filled
+returns-in-Inserted-clause-numbers g c = grind (arith, common_steps, c.in-Inserted.ensures.step, c.pass_deleted.ensures.rows, c.number_in.ensures, fills_inserted, fills_also, to_z-of_z, w64)
 
 pub returns-in-Some-clause-column : goal.returns-in-Some-clause-column
 returns-in-Some-clause-column g c =

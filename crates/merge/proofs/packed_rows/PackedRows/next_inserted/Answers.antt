@@ -1,5 +1,5 @@
 use Rattle.std.proofs.lemmas.Int.{to_z-of_z}
-use Rattle.std.proofs.Common.{rules, w64, ◌≡◌, ◌∙◌, [], ◌∷◌, List, length, map, take, get_or, refl, sym, ap, arith, length-take}
+use Rattle.std.proofs.Common.{rules, w64, ◌≡◌, ◌∙◌, [], ◌∷◌, List, length, map, take, get_or, sym, ap, arith, length-take}
 use Rattle.std.specs.Prelude.{ℤ, pos}
 use Rattle.merge.specs.Packed.{number_at, rows_in}
 use Rattle.merge.specs.PackedLeft.{cursor_of}

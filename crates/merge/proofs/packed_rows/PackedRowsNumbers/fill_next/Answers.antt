@@ -1,6 +1,5 @@
-use Rattle.std.proofs.Common.{rules, ◌≡◌, length, take, sym, subst, arith, length-take}
-use Rattle.merge.specs.Filling.{KeepsModified}
-use Rattle.merge.specs.PackedLeft.{count_passed, cursor_of, packed_left}
+use Rattle.std.proofs.Common.{rules, sym}
+use Rattle.merge.specs.PackedLeft.{packed_left}
 use Rattle.merge.proofs.FillingLemmas.{fills_also, room_one}
 use Rattle.merge.proofs.packed_rows.PackedRowsNumbers.fill_next.Goals as goal
 
@@ -25,14 +24,6 @@ pub fill_modified-requires-clause-column : goal.fill_modified-requires-clause-co
 fill_modified-requires-clause-column c =
     let ty = c.requires.column.0 in
     (ty, c.requires.column.1, c.pass_deleted.ensures.column ty c.args.col c.requires.column.2)
-
-pub fill_modified-requires-clause-kept : goal.fill_modified-requires-clause-kept
-fill_modified-requires-clause-kept c =
-    let p = c.pass_deleted.new.self in
-    let kept = c.kept-rows.ensures.kept in
-    let many : c.kept-rows.result ≡ length (take c.kept-rows.result c.args.out.now) =
-    omega (arith, kept.few, length-take c.kept-rows.result c.args.out.now) in
-    (length c.args.out.now, subst (λ m. KeepsModified (length c.args.out.now) (count_passed m (cursor_of p)) m (cursor_of p)) many kept)
 
 pub returns-clause-column : goal.returns-clause-column
 returns-clause-column c = λ ty column. c.fill_modified.ensures.column ty (c.pass_deleted.ensures.column ty c.args.col column)

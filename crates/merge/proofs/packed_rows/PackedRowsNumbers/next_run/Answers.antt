@@ -1,13 +1,12 @@
-use Rattle.std.proofs.Common.{rules, ◌≡◌, ◌+◌, ◌∷◌, [], T, ℕ, Option, Some, None, List, length, refl, sym, ap, subst, arith, w64}
-use Rattle.std.specs.Prelude.{ℤ, MatchOption}
+use Rattle.std.proofs.Common.{rules, ◌+◌, ◌∷◌, [], T, List, length, sym, ap, subst, arith, w64}
+use Rattle.std.specs.Prelude.{ℤ}
 use Rattle.std.specs.List.{list_all}
 use Rattle.std.proofs.lemmas.Int.{to_z-of_z}
 use Rattle.values.specs.declared.value.ColumnType.TheVariants as column
 use Rattle.merge.specs.Cursor.{entries_left}
-use Rattle.merge.specs.Filling.{InsertsNone, is_from}
-use Rattle.merge.specs.PackedLeft.{IsInsertNext, base_left, cursor_of, packed_left}
+use Rattle.merge.specs.Filling.{is_from}
+use Rattle.merge.specs.PackedLeft.{base_left, cursor_of, packed_left}
 use Rattle.merge.specs.declared.packed.Patch.{Patch}
-use Rattle.merge.specs.declared.packed_rows.PackedRows.{PackedRows}
 use Rattle.merge.proofs.FillingLemmas.{fills_also}
 use Rattle.merge.proofs.PackedFillLemmas.{none_nearer}
 use Rattle.merge.proofs.PackedLemmas.{patches_all_from}

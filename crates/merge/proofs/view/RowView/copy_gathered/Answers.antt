@@ -1,11 +1,10 @@
-use Rattle.std.proofs.Common.{◌<◌, ◌∙◌, ◌∷◌, ◌++◌, [], None, Some, ap, arith, get_or, length, sym}
-use Rattle.std.specs.Option.{option_map}
-use Rattle.values.specs.Lent.{value_of}
+use Rattle.std.proofs.Common.{◌∙◌, ◌∷◌, ◌++◌, [], Some, ap, arith, sym}
 use Rattle.std.proofs.lemmas.Option.{get_or_from_slice_get, slice_get_within}
 use Rattle.std.proofs.lemmas.List.{take_more}
-use Rattle.merge.specs.View.{modified_values, row_of}
+use Rattle.merge.specs.View.{row_of}
 use Rattle.merge.proofs.ViewLemmas.{length-modified, value_in_place}
 use Rattle.merge.proofs.view.RowView.copy_gathered.Goals as goal
+use Rattle.std.proofs.lemmas.Grind.{common_steps}
 
 pub loop-col-preserved : goal.loop-col-preserved
 loop-col-preserved c =
@@ -19,15 +18,7 @@ loop-col-preserved c =
     ∙ sym more
 
 pub bounds-deref-col : goal.bounds-deref-col
-bounds-deref-col c =
-    let v = c.args.self.now in
-    let lt : c.loop-col.col < length (modified_values v) = omega (arith, length-modified v, c.width-width.ensures, c.loop-col-test.true) in
-    let place = value_in_place c.in_ok-modified.modified.items (modified_values v) c.loop-col.col c.in_ok-modified.ensures lt in
-    omega (arith, place.0, ap length c.deref.ensures)
+bounds-deref-col c = grind (arith, common_steps, c.width-width.ensures, c.loop-col-test.true, c.in_ok-modified.ensures, c.deref.ensures, length-modified, value_in_place)
 
 pub value_or-requires-clause-modified : goal.value_or-requires-clause-modified
-value_or-requires-clause-modified c =
-    let v = c.args.self.now in
-    let lt : c.loop-col.col < length (modified_values v) = omega (arith, length-modified v, c.width-width.ensures, c.loop-col-test.true) in
-    let place = value_in_place c.in_ok-modified.modified.items (modified_values v) c.loop-col.col c.in_ok-modified.ensures lt in
-    place.1 ∙ ap (λ xs. Some (option_map value_of (get_or xs c.loop-col.col None))) (sym c.deref.ensures)
+value_or-requires-clause-modified c = grind (arith, common_steps, c.width-width.ensures, c.loop-col-test.true, c.in_ok-modified.ensures, c.deref.ensures, length-modified, value_in_place)

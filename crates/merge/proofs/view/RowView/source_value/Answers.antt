@@ -1,10 +1,10 @@
-use Rattle.std.proofs.Common.{◌≡◌, ◌∙◌, ◌<◌, length, get_or, slice_get, [], Some, ap, sym, arith}
+use Rattle.std.proofs.Common.{◌≡◌, ◌<◌, length, get_or, [], ap, arith}
 use Rattle.std.proofs.lemmas.Option.{slice_get-get_or}
-use Rattle.values.specs.declared.row.Row.{Row}
 use Rattle.merge.specs.View.{source_row}
 use Rattle.merge.specs.declared.view.Source.{Source}
 use Rattle.merge.proofs.ViewLemmas.{inside, stable_width}
 use Rattle.merge.proofs.view.RowView.source_value.Goals as goal
+use Rattle.std.proofs.lemmas.Grind.{common_steps}
 
 pub prove-unreachable-requires : goal.prove-unreachable-requires
 prove-unreachable-requires c =
@@ -26,12 +26,4 @@ prove-unreachable-requires c =
     )
 
 pub returns-in-Inserted : goal.returns-in-Inserted
-returns-in-Inserted c =
-    let col = c.args.col in
-    let cells = c.cells.result.now in
-    let source = ap (λ (x : Source). length (source_row x)) c.in-Inserted.is in
-    let lt : col < length cells = omega (arith, source, c.requires, ap length c.cells.ensures) in
-    ap (λ (x : Source). slice_get (source_row x) col) c.in-Inserted.is
-    ∙ ap (λ (row : Row). slice_get row col) (sym c.cells.ensures)
-    ∙ slice_get-get_or cells col c.index-cells-col.result lt
-    ∙ ap Some (sym c.index-cells-col.is ∙ sym c.as_ref.ensures)
+returns-in-Inserted c = grind (arith, common_steps, c.in-Inserted.is, c.requires, c.cells.ensures, c.index-cells-col.is, c.as_ref.ensures, slice_get-get_or)
