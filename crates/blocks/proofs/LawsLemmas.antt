@@ -32,7 +32,8 @@ map-Truth (Text t ∷ values) fit = absurd fit.0
 truths_take : (count : ℕ) (bytes : List ℕ) (values : List Value) → AreBytes bytes → truths_of count bytes ≡ Ok values
     → IsPayload column.Bool count bytes values
 unfolding truths_of
-truths_take count bytes values small e = grind (arith, common_steps, guard_ok, ltb-false, length-map, length-truths, bits_fit, map-is_true, packed-truths, ok_is)
+truths_take count bytes values small e =
+    grind (arith, common_steps, guard_ok, ltb-false, length-map, length-truths, bits_fit, map-is_true, packed-truths, ok_is)
 
 -- packed truths are read as these truths
 truths_again : (values : List Value) → AllFit column.Bool values

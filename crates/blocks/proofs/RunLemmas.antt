@@ -64,7 +64,8 @@ abbrev pub run_numbers : List Bool → ℕ → ℕ → List ℤ
 run_numbers truths first count = map (λ truth. cond truth (pos 1) (pos 0)) (take count (drop first truths))
 
 -- their bytes are these
-pub numbers_of_bytes : (truths : List Bool) → map pos (map (λ truth. cond truth 1 0) truths) ≡ map (λ truth. cond truth (pos 1) (pos 0)) truths
+pub numbers_of_bytes : (truths : List Bool)
+    → map pos (map (λ truth. cond truth 1 0) truths) ≡ map (λ truth. cond truth (pos 1) (pos 0)) truths
 numbers_of_bytes [] = refl
 numbers_of_bytes (true ∷ truths) = ap (λ ns. pos 1 ∷ ns) (numbers_of_bytes truths)
 numbers_of_bytes (false ∷ truths) = ap (λ ns. pos 0 ∷ ns) (numbers_of_bytes truths)
@@ -88,7 +89,8 @@ take_filled done more out part rest fits few =
     ∙ ap (λ ns. take done out ++ ns) (take-append-le more part rest few)
 
 -- a run of the first of a list
-run_of_take : {X : Type 0} (n first count : ℕ) (xs : List X) → first + n ≤ count → take n (drop first (take count xs)) ≡ take n (drop first xs)
+run_of_take : {X : Type 0} (n first count : ℕ) (xs : List X) → first + n ≤ count
+    → take n (drop first (take count xs)) ≡ take n (drop first xs)
 run_of_take n first count xs within =
     let parts : first + (count - first) ≡ count = omega arith in
     ap (λ k. take n (drop first (take k xs))) (sym parts)

@@ -146,7 +146,8 @@ pub text_found : (i at : ℕ) (bytes : List ℕ) (len : ℕ) (body t rest : List
     → len ≡ length_of bytes → len ≤ MAX_TEXT_BYTES → len ≤ length body → t ≡ take len body → rest ≡ drop len body → IsUtf8 t
     → text_at i at bytes ≡ Ok (t, rest)
 unfolding text_at
-text_found i at bytes len body t rest two body-is len-is short long t-is rest-is utf8 = grind (arith, common_steps, le-ltb, is_utf8-from_IsUtf8)
+text_found i at bytes len body t rest two body-is len-is short long t-is rest-is utf8 =
+    grind (arith, common_steps, le-ltb, is_utf8-from_IsUtf8)
 
 -- bytes that are no text
 pub text_bad : (i at : ℕ) (bytes : List ℕ) (len : ℕ) (body t : List ℕ) → 2 ≤ length bytes → body ≡ drop 2 bytes

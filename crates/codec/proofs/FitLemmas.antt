@@ -134,7 +134,8 @@ typed_take (suc n) (ty ∷ types) [] typed = absurd typed
 typed_take (suc n) (ty ∷ types) (value ∷ values) typed = (typed.0, typed_take n types values typed.1)
 
 -- the key of a row that fits is one that fits
-pub key_of_row : (schema : Columns) (row : List Value) → fits_schema schema row ≡ true → key_fits_schema schema (key_of schema.key_cols row) ≡ true
+pub key_of_row : (schema : Columns) (row : List Value) → fits_schema schema row ≡ true
+    → key_fits_schema schema (key_of schema.key_cols row) ≡ true
 key_of_row schema row fits =
     ap is_none (typed_list (take schema.key_cols schema.types) (take schema.key_cols row)
     (typed_take schema.key_cols schema.types row (row_typed schema row fits)))
@@ -180,5 +181,6 @@ pub fault_none : (a b : Option ShapeFault) → is_none a ≡ true → or_fault a
 fault_none None b h = refl
 fault_none (Some x) b h = absurd cc
 
-pub list_is : (types : List ColumnType) (values : List Value) → length values ≡ length types → list_fault types values ≡ values_fault 0 types values
+pub list_is : (types : List ColumnType) (values : List Value) → length values ≡ length types
+    → list_fault types values ≡ values_fault 0 types values
 list_is types values same = ap (λ b. cond b (values_fault 0 types values) (Some WrongCount)) (eq-eqb (length values) (length types) same)

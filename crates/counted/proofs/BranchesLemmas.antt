@@ -23,7 +23,8 @@ use Rattle.counted.proofs.Places.{split_items}
 
 -- ---- one branch more
 
-before-push : (branches : List Branch) (s : Branch) → before (branches ++ s ∷ []) ≡ before branches ++ all_items (take s.index s.children.now)
+before-push : (branches : List Branch) (s : Branch)
+    → before (branches ++ s ∷ []) ≡ before branches ++ all_items (take s.index s.children.now)
 before-push [] s = append-nil (all_items (take s.index s.children.now))
 before-push (x ∷ branches) s =
     let own = all_items (take x.index x.children.now) in
@@ -61,7 +62,8 @@ width-at_least (s ∷ branches) = refl
 longer : (depth : ℕ) (branches : List Branch) (s : Branch) → suc depth + length branches ≡ depth + length (branches ++ s ∷ [])
 longer depth branches s = omega (arith, length-append branches (s ∷ []))
 
-branches-push : (depth least : ℕ) (branches : List Branch) (s : Branch) → AreBranches (suc depth) least branches → IsBranch depth (width_at least branches) s
+branches-push : (depth least : ℕ) (branches : List Branch) (s : Branch) → AreBranches (suc depth) least branches
+    → IsBranch depth (width_at least branches) s
     → AreBranches depth least (branches ++ s ∷ [])
 branches-push depth least [] s h is = let e : depth ≡ depth + 0 = omega arith in (subst (λ n. IsBranch n least s) e is, tt)
 branches-push depth least (x ∷ branches) s h is = (
@@ -74,7 +76,8 @@ record IsLast (depth least : ℕ) (branches : List Branch) (s : Branch) : Type 0
   pub last : IsBranch depth (width_at least branches) s
   pub rest : AreBranches (suc depth) least branches
 
-branches-pop : (depth least : ℕ) (branches : List Branch) (s : Branch) → AreBranches depth least (branches ++ s ∷ []) → IsLast depth least branches s
+branches-pop : (depth least : ℕ) (branches : List Branch) (s : Branch) → AreBranches depth least (branches ++ s ∷ [])
+    → IsLast depth least branches s
 branches-pop depth least [] s h =
     let e : depth + 0 ≡ depth = omega arith in record { last = subst (λ n. IsBranch n least s) e h.0; rest = tt }
 branches-pop depth least (x ∷ branches) s h =

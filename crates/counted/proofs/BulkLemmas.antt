@@ -24,5 +24,6 @@ level_of depth children each some =
     let P : ℕ → Type 0 = λ n. All (IsChild n) children in
     subst P (sym (depth_all depth children each some)) each
 
-pub group_of : (depth : ℕ) (group : List Child) → All (IsChild depth) group → 1 ≤ length group → length group ≤ MAX_WIDTH → AreChildren group
+pub group_of : (depth : ℕ) (group : List Child) → All (IsChild depth) group → 1 ≤ length group → length group ≤ MAX_WIDTH
+    → AreChildren group
 group_of depth group each some room = record { some = some; room = room; each = level_of depth group each some }

@@ -48,7 +48,8 @@ next_le key_cols x y h = by_order key_cols x.sid y.sid x.change y.change h
 all_next : (key_cols : ℕ) (x : Entry) (es : List Entry) → T (list_all (λ y. is_lt (entry_cmp key_cols x y)) es)
     → AllByRecursion (λ y. next_sid x.sid x.change ≤ y.sid) es
 all_next key_cols x [] h = tt
-all_next key_cols x (y ∷ es) h = grind (arith, common_steps, all_next key_cols x es (second (is_lt (entry_cmp key_cols x y)) _ h), next_le, less, first, second)
+all_next key_cols x (y ∷ es) h =
+    grind (arith, common_steps, all_next key_cols x es (second (is_lt (entry_cmp key_cols x y)) _ h), next_le, less, first, second)
 
 pub ordered_from_lawful : (key_cols : ℕ) (es : List Entry) → T (are_ordered key_cols es) → IsOrdered es
 ordered_from_lawful key_cols [] h = tt

@@ -30,7 +30,8 @@ all_parts-ended next col [] front old back whole = refl
 all_parts-ended next col (ty ∷ types) [] old back whole =
     ap (λ (r : Result (List Part) ReadFault). r >>= λ ps. (all_parts (suc col) types back >>= λ os. Ok (ps ∷ os)))
     (end_reading next ty old whole col)
-all_parts-ended next col (ty ∷ types) (bytes ∷ front) old back whole = grind (arith, common_steps, all_parts-ended next (suc col) types front old back whole)
+all_parts-ended next col (ty ∷ types) (bytes ∷ front) old back whole =
+    grind (arith, common_steps, all_parts-ended next (suc col) types front old back whole)
 
 -- it stores what it stored
 pub StoresAs-ended : (old new : List ℕ) → new ≡ old ++ 69 ∷ [] → StoresAs old new

@@ -53,7 +53,8 @@ pub column_after : (old : List ℕ) (frames more : List Frame) (rest : List ℕ)
     → AreFramesAt (seam_after_all start frames) more
     → is_rest (seam_after_all (seam_after_all start frames) more) rest ≡ true
     → IsColumn (old ++ (column_bytes more ++ rest)) (frames ++ more) rest
-column_after old frames more rest is lawful torn = grind (arith, common_steps, AreFramesAt-append, seam_after_all-append, append-nil, append_assoc, flat_map-append)
+column_after old frames more rest is lawful torn =
+    grind (arith, common_steps, AreFramesAt-append, seam_after_all-append, append-nil, append_assoc, flat_map-append)
 
 -- the blocks that are read of a column are those among its frames
 pub parts_again : (ty : ColumnType) (bytes : List ℕ) (frames : List Frame) (rest : List ℕ) → IsColumn bytes frames rest

@@ -133,7 +133,8 @@ newest_of-unended g columns best (p ∷ more) of lacks =
 pub newest_whole-part : (g : ℕ) (cs : List Grown) → AllByRecursion (IsGrown g) cs → list_all (is_whole g) (map all_of cs) ≡ false
     → newest_whole (map all_of cs) ≡ newest_whole (map front_of cs)
 newest_whole-part g [] are lacks = refl
-newest_whole-part g (c ∷ cs) are lacks = grind (arith, common_steps, newest_of-append, newest_of-front, and_cases, newest_of-unended, is_whole-more, newest_of-part)
+newest_whole-part g (c ∷ cs) are lacks =
+    grind (arith, common_steps, newest_of-append, newest_of-front, and_cases, newest_of-unended, is_whole-more, newest_of-part)
 
 -- where each has it, it is the newer one
 pub newest_whole-all : (g : ℕ) (c : Grown) (cs : List Grown) → AllByRecursion (IsGrown g) (c ∷ cs)

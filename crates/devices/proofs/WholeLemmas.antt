@@ -26,7 +26,8 @@ later_at : (ty : ColumnType) (before : Part) (parts : List Part) (n : ℕ) (d : 
     → IsLater before (get_or parts n d)
 later_at ty before [] n d next lt = absurd (omega (arith, lt))
 later_at ty before (part ∷ parts) zero d next lt = later_follows before part next.1
-later_at ty before (part ∷ parts) (suc n) d next lt = grind (arith, common_steps, later_at ty part parts n d next.2 (omega (arith, lt)), later_follows)
+later_at ty before (part ∷ parts) (suc n) d next lt =
+    grind (arith, common_steps, later_at ty part parts n d next.2 (omega (arith, lt)), later_follows)
 
 -- generations don't fall
 sorted : (ty : ColumnType) (before : Option Part) (parts : List Part) → AreNext ty before parts

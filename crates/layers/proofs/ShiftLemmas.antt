@@ -42,12 +42,14 @@ moved-moved f g i (e ∷ es) = ap (λ (zs : List Entry). f i (g i e) ∷ zs) (mo
 pub moved_alike : (f g : Move) (i : ℕ) (es : List Entry)
     → ((j : ℕ) (e : Entry) → i ≤ j → j < i + length es → f j e ≡ g j e) → moved_from f i es ≡ moved_from g i es
 moved_alike f g i [] same = refl
-moved_alike f g i (e ∷ es) same = grind (arith, common_steps, moved_alike f g (suc i) es (λ j z low high. same j z (omega (arith, low)) (omega (arith, high))))
+moved_alike f g i (e ∷ es) same =
+    grind (arith, common_steps, moved_alike f g (suc i) es (λ j z low high. same j z (omega (arith, low)) (omega (arith, high))))
 
 pub moved_still : (f : Move) (i : ℕ) (es : List Entry)
     → ((j : ℕ) (e : Entry) → i ≤ j → j < i + length es → f j e ≡ e) → moved_from f i es ≡ es
 moved_still f i [] same = refl
-moved_still f i (e ∷ es) same = grind (arith, common_steps, moved_still f (suc i) es (λ j z low high. same j z (omega (arith, low)) (omega (arith, high))))
+moved_still f i (e ∷ es) same =
+    grind (arith, common_steps, moved_still f (suc i) es (λ j z low high. same j z (omega (arith, low)) (omega (arith, high))))
 
 pub length-moved : (f : Move) (i : ℕ) (es : List Entry) → length (moved_from f i es) ≡ length es
 length-moved f i [] = refl
@@ -106,7 +108,8 @@ rest_slices : (s t i m : ℕ) (f : Entry → Entry) (es : List Entry) → s ≤ 
 rest_slices s t i zero f [] low end = refl
 rest_slices s t i (suc m) f [] low end = refl
 rest_slices s t i zero f (e ∷ es) low end = grind (arith, common_steps, moved_still, above)
-rest_slices s t i (suc m) f (e ∷ es) low end = grind (arith, common_steps, rest_slices s t (suc i) m f es (omega (arith, low)) (omega (arith, end)), inside)
+rest_slices s t i (suc m) f (e ∷ es) low end =
+    grind (arith, common_steps, rest_slices s t (suc i) m f es (omega (arith, low)) (omega (arith, end)), inside)
 
 -- as slices
 pub between_slices : (s t i p m : ℕ) (f : Entry → Entry) (es : List Entry) → s ≡ i + p → t ≡ s + m
@@ -114,7 +117,8 @@ pub between_slices : (s t i p m : ℕ) (f : Entry → Entry) (es : List Entry) �
 between_slices s t i zero m f es start end = rest_slices s t i m f es (omega (arith, start)) (omega (arith, start, end))
 between_slices s t i (suc p) zero f [] start end = refl
 between_slices s t i (suc p) (suc m) f [] start end = refl
-between_slices s t i (suc p) m f (e ∷ es) start end = grind (arith, common_steps, between_slices s t (suc i) p m f es (omega (arith, start)) end, below)
+between_slices s t i (suc p) m f (e ∷ es) start end =
+    grind (arith, common_steps, between_slices s t (suc i) p m f es (omega (arith, start)) end, below)
 
 -- from an index to the end
 to_end : (s t i p : ℕ) (f : Entry → Entry) (es : List Entry) → s ≡ i + p → t ≡ i + length es
@@ -132,7 +136,8 @@ to_end s t i zero f (e ∷ es) start end =
         let first = inside s t f j z low (omega (arith, high)) in
         let others = all_there (suc j) zs (omega (arith, low)) (omega (arith, high)) in
         λ k. first k ∷ others k
-to_end s t i (suc p) f (e ∷ es) start end = grind (arith, common_steps, to_end s t (suc i) p f es (omega (arith, start)) (omega (arith, end)), below)
+to_end s t i (suc p) f (e ∷ es) start end =
+    grind (arith, common_steps, to_end s t (suc i) p f es (omega (arith, start)) (omega (arith, end)), below)
 
 pub moved_to_end : (p : ℕ) (f : Entry → Entry) (es : List Entry) → moved_between p (length es) f es ≡ take p es ++ map f (drop p es)
 moved_to_end p f es = to_end p (length es) 0 p f es (omega arith) (omega arith)
@@ -300,7 +305,8 @@ module _ (ss : List Shift) (es : List Entry) (b p q : ℕ) (h : IsBlock b p q (l
 pub added_to : (ss : List Shift) (es : List Entry) (b : ℕ) (both : Shift) (f : Entry → Entry) → b < length ss
     → ((e : Entry) → shifted_by both e ≡ f (shifted_by (get_or ss b no_shift) e))
     → shifted_entries (slice_set ss b both) es ≡ moved_between (b * 256) (b * 256 + 256) f (shifted_entries ss es)
-added_to ss es b both f lt is = grind (arith, common_steps, both, moved_alike, moved-moved, le_or_lt, shift_other, above, shift_set, inside, below)
+added_to ss es b both f lt is =
+    grind (arith, common_steps, both, moved_alike, moved-moved, le_or_lt, shift_other, above, shift_set, inside, below)
 
 -- a block's indices, and those that there are
 pub block_run : (b p q : ℕ) (f : Entry → Entry) (es : List Entry) → IsBlock b p q (length es)

@@ -18,7 +18,8 @@ start_at v limit recent rule = record { table = v.table; base = v.number; limit 
 
 -- the history that starts over a version
 abbrev pub recorded_at : TableVersion → ℕ → ℕ → ConflictRule → List Record → Recorded
-recorded_at v limit recent rule records = record { schema = v.schema; start = start_at v limit recent rule; records = records; keeps = true }
+recorded_at v limit recent rule records =
+    record { schema = v.schema; start = start_at v limit recent rule; records = records; keeps = true }
 
 -- whether there are records that code keeps
 abbrev pub keeps_them : Option (List Record) → Bool

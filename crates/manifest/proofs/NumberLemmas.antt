@@ -49,7 +49,8 @@ digit_takes (b ∷ bytes) x rest e =
 
 digit_low : (b x : ℕ) (rest : List ℕ) → b ≡ 48 + x → x < 10 → digit_at (b ∷ rest) ≡ Some (x, rest)
 unfolding digit_at
-digit_low b x rest is lt = rw (in_range 48 57 b (omega (arith, is)) (omega (arith, is, lt))) (ap (λ (n : ℕ). read (n, rest)) (omega (arith, is)))
+digit_low b x rest is lt =
+    rw (in_range 48 57 b (omega (arith, is)) (omega (arith, is, lt))) (ap (λ (n : ℕ). read (n, rest)) (omega (arith, is)))
   where
     read : ℕ × List ℕ → Option (ℕ × List ℕ)
     read p = Some p
@@ -100,7 +101,8 @@ length-digit n = by (ltb n 10)
     by true = refl
     by false = refl
 
-length-halves : (base size : ℕ) (half : ℕ → List ℕ) → ((n : ℕ) → length (half n) ≡ size) → (n : ℕ) → length (halves_text base half n) ≡ size + size
+length-halves : (base size : ℕ) (half : ℕ → List ℕ) → ((n : ℕ) → length (half n) ≡ size) → (n : ℕ)
+    → length (halves_text base half n) ≡ size + size
 length-halves base size half h n = omega (arith, length-append (half (n / base)) (half (n % base)), h (n / base), h (n % base))
 
 pub length-word : (n : ℕ) → length (word_text n) ≡ 8
@@ -118,7 +120,8 @@ digit_true b e = range_true 48 57 b e
 value_of : (b : ℕ) → 48 ≤ b → b ≤ 57 → digit_value b ≡ b - 48
 value_of b l h = omega (arith, digit_value_digit b (l, h), l)
 
-pub digit_step : (most n b : ℕ) (bytes : List ℕ) (x : ℕ) (rest : List ℕ) → is_ascii_digit b ≡ true → number_from most n (b ∷ bytes) ≡ Some (x, rest)
+pub digit_step : (most n b : ℕ) (bytes : List ℕ) (x : ℕ) (rest : List ℕ) → is_ascii_digit b ≡ true
+    → number_from most n (b ∷ bytes) ≡ Some (x, rest)
     → (n * 10 + (b - 48) ≤ most) × (number_from most (n * 10 + (b - 48)) bytes ≡ Some (x, rest))
 unfolding number_from
 digit_step most n b bytes x rest is e =
@@ -153,7 +156,8 @@ value_grows : (n : ℕ) (ds : List ℕ) → n ≤ digits_value_after 10 n ds
 value_grows n [] = omega arith
 value_grows n (d ∷ ds) = omega (arith, value_grows (n * 10 + digit_value d) ds)
 
-from_again : (most n : ℕ) (ds : List ℕ) (end : ℕ) (rest : List ℕ) → AllDigits 10 ds → digits_value_after 10 n ds ≤ most → is_ascii_digit end ≡ false
+from_again : (most n : ℕ) (ds : List ℕ) (end : ℕ) (rest : List ℕ) → AllDigits 10 ds → digits_value_after 10 n ds ≤ most
+    → is_ascii_digit end ≡ false
     → number_from most n (ds ++ end ∷ rest) ≡ Some (digits_value_after 10 n ds, end ∷ rest)
 unfolding number_from
 from_again most n [] end rest all le ends = rw ends refl

@@ -117,7 +117,8 @@ one_past n place es x is h past =
 -- no modify of the next row is past
 cells-past : (sid : ℕ) (xs ys : List Entry) → T (list_all (is_past sid) xs) → cells_at sid (xs ++ ys) ≡ cells_at sid ys
 cells-past sid [] ys h = refl
-cells-past sid (x ∷ xs) ys h = grind (arith, common_steps, cells-past sid xs ys (second (is_past sid x) _ h), second, nat_tests, first, changes_at_other, same_of)
+cells-past sid (x ∷ xs) ys h =
+    grind (arith, common_steps, cells-past sid xs ys (second (is_past sid x) _ h), second, nat_tests, first, changes_at_other, same_of)
 
 pub cells_at-left : (c : TreeCursor) → T (list_all (is_past c.sid) (take c.index c.tree.entries))
     → cells_at c.sid c.tree.entries ≡ cells_at c.sid (entries_left c)

@@ -27,7 +27,8 @@ all_from n es = list_all (λ e. nat_le n e.sid) es
 
 pub all_from-weaken : (n m : ℕ) (es : List Entry) → n ≤ m → T (all_from m es) → T (all_from n es)
 all_from-weaken n m [] le h = tt
-all_from-weaken n m (e ∷ es) le h = grind (arith, common_steps, all_from-weaken n m es le (second (nat_le m e.sid) _ h), le_of, first, both, of_le, second)
+all_from-weaken n m (e ∷ es) le h =
+    grind (arith, common_steps, all_from-weaken n m es le (second (nat_le m e.sid) _ h), le_of, first, both, of_le, second)
 
 pub all_after-from : (n : ℕ) (es : List Entry) → T (all_from (suc n) es) → T (all_after n es)
 all_after-from n [] h = tt

@@ -85,7 +85,8 @@ entries_within t k (effect.Rep row) fit = grind (arith, common_steps, both, of_l
 
 canonical_within : (t : Table) (x : Effects) → T (all_fit t x) → T (list_all (stands_within 0 (length t)) (canonical_entries t x))
 canonical_within t [] fit = tt
-canonical_within t (e ∷ x) fit = grind (arith, common_steps, canonical_within t x (second (fits (row_at t e.0) e.1) _ fit), within_append, entries_within, first, second)
+canonical_within t (e ∷ x) fit =
+    grind (arith, common_steps, canonical_within t x (second (fits (row_at t e.0) e.1) _ fit), within_append, entries_within, first, second)
 
 module _ (schema : Columns) where
   -- the entries of effects over a table stand in order over its rows
@@ -156,7 +157,8 @@ module _ (stable : Stable) (read write trans : Tree) (h : AreStacked stable read
       (leaves stable.schema (table_with (table_with (table_in stable) h.lower.effects) h.middle.effects) h.upper.effects h.upper.over)
 
 -- rows that are a table's are a table under their keys
-keyed_rows : (schema : Columns) (t : Table) (rows : List Row) → IsTable schema t → rows ≡ rows_of t → IsTable schema (table_of schema.key_cols rows)
+keyed_rows : (schema : Columns) (t : Table) (rows : List Row) → IsTable schema t → rows ≡ rows_of t
+    → IsTable schema (table_of schema.key_cols rows)
 keyed_rows schema t rows h is = grind (arith, common_steps, table_of-rows_of)
 
 module _ (stable : Stable) (read write trans : Tree) (h : AreStacked stable read write trans) where

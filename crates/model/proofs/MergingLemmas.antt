@@ -88,7 +88,8 @@ pub merged_rows_from_modify : (n : ℕ) (cells : Cells) (row : Row) (base : List
     → merged_rows_from n (row ∷ base) (map (λ c. entry_at n (Mod c.0 c.1)) cells ++ es)
     ≡ set_cells cells row ∷ merged_rows_from (suc n) base es
 merged_rows_from_modify n [] row base es h = merged_rows_from_none n row base es h
-merged_rows_from_modify n (c ∷ cells) row base es h = grind (arith, common_steps, merged_rows_from_modify n cells (slice_set row c.0 c.1) base es h, changes_at_here, merged_rows_from_past)
+merged_rows_from_modify n (c ∷ cells) row base es h =
+    grind (arith, common_steps, merged_rows_from_modify n cells (slice_set row c.0 c.1) base es h, changes_at_here, merged_rows_from_past)
 
 -- no entries change nothing
 pub merged_rows_from_nothing : (n : ℕ) (base : List Row) → merged_rows_from n base [] ≡ base

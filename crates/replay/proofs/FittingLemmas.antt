@@ -106,7 +106,8 @@ in_order {P} a b o below here h = elim (nat_cmp a b) as (λ r. nat_cmp a b ≡ r
 ] refl h
 
 -- a cell that fits the schema is in no key column
-cell_outside : (type : Option ColumnType) (key_cols col : ℕ) (v : Value) → T (is_none (cell_fault_at type key_cols col v)) → T (nat_le key_cols col)
+cell_outside : (type : Option ColumnType) (key_cols col : ℕ) (v : Value) → T (is_none (cell_fault_at type key_cols col v))
+    → T (nat_le key_cols col)
 cell_outside None key_cols col v h = absurd h
 cell_outside (Some type) key_cols col v h =
     elim (nat_lt col key_cols) as (λ b. nat_lt col key_cols ≡ b → T (is_none (cond b (Some shape.KeyColumn) (value_fault type col v)))

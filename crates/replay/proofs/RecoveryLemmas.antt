@@ -26,7 +26,8 @@ use Rattle.replay.specs.declared.fault.RecoverFault.{RecoverFault}
 use Rattle.replay.specs.declared.fault.RecoverFault.TheVariants as fault
 
 -- the rows after the first commits are those after their trees
-pub rows_are : ((schema : Columns) → MergesToTable schema) → (schema : Columns) (t : Table) (commits : List Effects) (k : ℕ) → AreCommits schema t commits
+pub rows_are : ((schema : Columns) → MergesToTable schema) → (schema : Columns) (t : Table) (commits : List Effects) (k : ℕ)
+    → AreCommits schema t commits
     → rows_of (table_with_all t (take k commits)) ≡ rows_after (rows_of t) (take k (trees_of schema t commits))
 rows_are merges schema t [] zero h = refl
 rows_are merges schema t [] (suc k) h = refl
@@ -39,7 +40,8 @@ pub length-trees_of : (schema : Columns) (t : Table) (commits : List Effects) �
 length-trees_of schema t [] = refl
 length-trees_of schema t (x ∷ commits) = ap suc (length-trees_of schema (table_with t x) commits)
 
-pub rows_after-append : (rows : List Row) (logged more : List (List Entry)) → rows_after rows (logged ++ more) ≡ rows_after (rows_after rows logged) more
+pub rows_after-append : (rows : List Row) (logged more : List (List Entry))
+    → rows_after rows (logged ++ more) ≡ rows_after (rows_after rows logged) more
 rows_after-append rows [] more = refl
 rows_after-append rows (x ∷ logged) more = rows_after-append (merged_rows rows x) logged more
 
@@ -103,7 +105,8 @@ has_prefix law decode schema seed base t commits safe number bytes rows m c imag
 take-all : {A : Type 0} (xs : List A) (n : ℕ) → n ≡ length xs → take n xs ≡ xs
 take-all xs n e = ap (λ m. take m xs) e ∙ take-length xs
 
-said_by_frames : {A : Type 0} (d : List ℕ → A) (frames : List Frame) → map (λ l. d l.payload) (map logged_in frames) ≡ map (λ f. d f.payload.now) frames
+said_by_frames : {A : Type 0} (d : List ℕ → A) (frames : List Frame)
+    → map (λ l. d l.payload) (map logged_in frames) ≡ map (λ f. d f.payload.now) frames
 said_by_frames d [] = refl
 said_by_frames d (f ∷ frames) = ap (λ (es : List _). d f.payload.now ∷ es) (said_by_frames d frames)
 

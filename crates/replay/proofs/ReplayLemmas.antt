@@ -24,7 +24,8 @@ use Rattle.replay.proofs.RecoveryLemmas.{rows_after-append}
 next : (n : ℕ) → suc n + 0 ≡ n + 1
 next n = omega arith
 
-pub redone_replayed : (m new : Managed) (tree : Tree) (w : IsLayer m.schema (newest_table m) tree) → ((schema : Columns) → MergesToTable schema)
+pub redone_replayed : (m new : Managed) (tree : Tree) (w : IsLayer m.schema (newest_table m) tree)
+    → ((schema : Columns) → MergesToTable schema)
     → IsRedone m w.effects new → IsReplayed m (merged_rows (rows_of (newest_table m)) tree.entries) 1 new
 redone_replayed m new tree w merges is = record {
   rows_are =

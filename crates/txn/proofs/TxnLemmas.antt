@@ -175,7 +175,8 @@ pub seen : (txn self : Transaction) (view : txn ≡ self) (write : Write) (colum
     → columns ≡ self.schema → key_cols ≡ columns.key_cols → key ≡ key_of_write key_cols write
     → IsFound self key sid there inserted → count ≡ length (image_of self) → reply ≡ reply_where txn.limit there count write
     → IsSeen txn write sid inserted reply
-seen txn self view write columns key_cols key sid count there inserted reply fits_it columns_are cols_is key_is found_is count_is reply_is = search rules
+seen txn self view write columns key_cols key sid count there inserted reply fits_it columns_are cols_is key_is found_is count_is reply_is =
+    search rules
 
 -- its tree is in order, and what is found of a key's place is of it
 module _ (txn : Transaction) (h : IsTransaction txn) (tree : Tree) (tree_is : tree ≡ tree_of txn) where

@@ -9,10 +9,12 @@ pub index_mut-requires : goal.index_mut-requires
 index_mut-requires c = grind (arith, common_steps, c.requires.packed, c.bit_in-bit.ensures, c.if-count-eq0.false, last_there)
 
 pub overflow_add-index_mut : goal.overflow_add-index_mut
-overflow_add-index_mut c = grind (arith, common_steps, c.requires.packed, c.bit_in-bit.ensures, c.if-count-eq0.false, c.index_mut.ensures.value, last_fits, ints)
+overflow_add-index_mut c =
+    grind (arith, common_steps, c.requires.packed, c.bit_in-bit.ensures, c.if-count-eq0.false, c.index_mut.ensures.value, last_fits, ints)
 
 pub returns-in_ok-push-clause-ok : goal.returns-in_ok-push-clause-ok
-returns-in_ok-push-clause-ok c = grind (arith, common_steps, c.in_ok-push.ensures.items, c.bit_in-bit.ensures, c.if-count-eq0.true, more_in_new)
+returns-in_ok-push-clause-ok c =
+    grind (arith, common_steps, c.in_ok-push.ensures.items, c.bit_in-bit.ensures, c.if-count-eq0.true, more_in_new)
 
 pub returns-else-count-eq0-clause-ok : goal.returns-else-count-eq0-clause-ok
 returns-else-count-eq0-clause-ok c =

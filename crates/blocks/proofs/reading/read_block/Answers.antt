@@ -9,7 +9,8 @@ use Rattle.blocks.proofs.reading.read_block.Goals as goal
 use Rattle.std.proofs.lemmas.Grind.{common_steps}
 
 pub returns-in_err-cells-clause-only : goal.returns-in_err-cells-clause-only
-returns-in_err-cells-clause-only c = grind (arith, common_steps, c.from_residual.ensures.1, c.in_err-cells.ensures.first, err_from_is_err_and, payload_reads)
+returns-in_err-cells-clause-only c =
+    grind (arith, common_steps, c.from_residual.ensures.1, c.in_err-cells.ensures.first, err_from_is_err_and, payload_reads)
 
 -- the bytes are the payload of what was read
 payload : (c : In_ok-cells) → IsPayload c.args.ty c.args.count c.args.bytes.now (column_of c.in_ok-cells.cells).values

@@ -10,4 +10,5 @@ pub returns-then-bytes-count-clause-first : goal.returns-then-bytes-count-clause
 returns-then-bytes-count-clause-first c = grind (arith, common_steps, ints_long)
 
 pub returns-clause-first : goal.returns-clause-first
-returns-clause-first c = grind (arith, common_steps, c.as_chunks.ensures.front_len, c.in_ok-ints_of.ensures, c.as_chunks.ensures.front, ints_exact, map-int_of)
+returns-clause-first c =
+    grind (arith, common_steps, c.as_chunks.ensures.front_len, c.in_ok-ints_of.ensures, c.as_chunks.ensures.front, ints_exact, map-int_of)

@@ -42,7 +42,8 @@ pub loop-block-init : goal.loop-block-init
 loop-block-init c = grind (arith, common_steps, c.settle.ensures.same, c.requires.index, c.settle.ensures.shifts, c.requires.covered, c.move_all.ensures, length-moved, le_or_lt, own_block, moves_settled, run_ends)
 
 pub move_block-requires-clause-before : goal.move_block-requires-clause-before
-move_block-requires-clause-before c = grind (arith, common_steps, c.loop-block.invariant.moved, c.requires.few, c.requires.before, c.requires.placed, all_between)
+move_block-requires-clause-before c =
+    grind (arith, common_steps, c.loop-block.invariant.moved, c.requires.few, c.requires.before, c.requires.placed, all_between)
 
 pub move_block-requires-clause-after : goal.move_block-requires-clause-after
 move_block-requires-clause-after c =
@@ -56,7 +57,8 @@ move_block-requires-clause-after c =
     (all_between c.args.index t c.args.shift before c.requires.few c.requires.before c.requires.placed)
 
 pub loop-block-preserved : goal.loop-block-preserved
-loop-block-preserved c = grind (arith, common_steps, c.loop-block.invariant.past, c.move_block.ensures, c.loop-block.invariant.moved, runs_join)
+loop-block-preserved c =
+    grind (arith, common_steps, c.loop-block.invariant.past, c.move_block.ensures, c.loop-block.invariant.moved, runs_join)
 
 pub returns : goal.returns
 returns c =

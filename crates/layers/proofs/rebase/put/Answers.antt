@@ -9,7 +9,8 @@ use Rattle.layers.proofs.rebase.put.Goals.{then-is_empty+else-sid+in_ok-entries,
 use Rattle.std.proofs.lemmas.Grind.{common_steps}
 
 pub returns-then-sid : goal.returns-then-sid
-returns-then-sid c = grind (arith, common_steps, c.is_empty.ensures, c.if-is_empty.true, c.requires, c.if-sid.true, c.sid.ensures, none_if, put_none)
+returns-then-sid c =
+    grind (arith, common_steps, c.is_empty.ensures, c.if-is_empty.true, c.requires, c.if-sid.true, c.sid.ensures, none_if, put_none)
 
 pub first_entries-requires : goal.first_entries-requires
 first_entries-requires c = omega (arith, c.requires, slice_get_within)

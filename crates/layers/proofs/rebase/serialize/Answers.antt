@@ -14,7 +14,8 @@ use Rattle.layers.proofs.rebase.serialize.Goals as goal
 use Rattle.std.proofs.lemmas.Grind.{common_steps}
 
 pub find-found-requires-clause-ready : goal.find-found-requires-clause-ready
-find-found-requires-clause-ready c = grind (arith, common_steps, c.loop-entry.invariant.left, c.in-Some.ensures.steps, c.loop-entry.invariant.ready, is_at)
+find-found-requires-clause-ready c =
+    grind (arith, common_steps, c.loop-entry.invariant.left, c.in-Some.ensures.steps, c.loop-entry.invariant.ready, is_at)
 
 pub find-found-requires-clause-sid : goal.find-found-requires-clause-sid
 find-found-requires-clause-sid c =

@@ -31,7 +31,8 @@ loop-entry-init c =
 
 -- nothing is left to find past an entry at another SID
 pub returns-then-sid : goal.returns-then-sid
-returns-then-sid c = grind (arith, common_steps, c.in-Some.ensures.steps, c.loop-entry.invariant, c.if-sid.true, c.sid.ensures, cells_at-end, first)
+returns-then-sid c =
+    grind (arith, common_steps, c.in-Some.ensures.steps, c.loop-entry.invariant, c.if-sid.true, c.sid.ensures, cells_at-end, first)
 
 pub loop-entry-preserved : goal.loop-entry-preserved
 loop-entry-preserved c =

@@ -51,7 +51,8 @@ opened_schema : (c : After-replay) → c.in_ok-manager.manager.schema ≡ c.args
 opened_schema c = ap (λ (m : Managed). m.schema) c.in_ok-manager.ensures.ok
 
 opened_number : (c : After-replay) → newest_number c.in_ok-manager.manager ≡ c.args.image.number
-opened_number c = let none : c.args.image.number + 0 ≡ c.args.image.number = omega arith in ap newest_number c.in_ok-manager.ensures.ok ∙ none
+opened_number c =
+    let none : c.args.image.number + 0 ≡ c.args.image.number = omega arith in ap newest_number c.in_ok-manager.ensures.ok ∙ none
 
 pub returns-clause-limits : goal.returns-clause-limits
 returns-clause-limits c =

@@ -10,7 +10,8 @@ pub index_mut-requires : goal.index_mut-requires
 index_mut-requires c = grind (arith, common_steps, c.requires.kept, c.if-count-eq0.false, last_there)
 
 pub push_run-requires-clause-few : goal.push_run-requires-clause-few
-push_run-requires-clause-few c = grind (arith, common_steps, c.requires.fits, c.requires.kept, c.if-count-eq0.false, c.index_mut.ensures.value, last_filled)
+push_run-requires-clause-few c =
+    grind (arith, common_steps, c.requires.fits, c.requires.kept, c.if-count-eq0.false, c.index_mut.ensures.value, last_filled)
 
 pub push_run-requires-clause-typed : goal.push_run-requires-clause-typed
 push_run-requires-clause-typed c =

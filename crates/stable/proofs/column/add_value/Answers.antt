@@ -12,7 +12,8 @@ pub index_mut-requires : goal.index_mut-requires
 index_mut-requires c = grind (arith, common_steps, c.requires.kept, c.if-count-eq0.false, last_there)
 
 pub push-requires-else-count-eq0-clause-few : goal.push-requires-else-count-eq0-clause-few
-push-requires-else-count-eq0-clause-few c = grind (arith, common_steps, c.requires.kept, c.if-count-eq0.false, c.index_mut.ensures.value, last_filled)
+push-requires-else-count-eq0-clause-few c =
+    grind (arith, common_steps, c.requires.kept, c.if-count-eq0.false, c.index_mut.ensures.value, last_filled)
 
 pub push-requires-else-count-eq0-clause-typed : goal.push-requires-else-count-eq0-clause-typed
 push-requires-else-count-eq0-clause-typed c =
@@ -22,7 +23,8 @@ push-requires-else-count-eq0-clause-typed c =
     subst (λ (ty : ColumnType). IsTrue (has_type ty (value_of c.args.value))) (sym (ap (λ (b : Column). b.ty) is)) c.requires.typed
 
 pub returns-in_ok-push-clause-ok : goal.returns-in_ok-push-clause-ok
-returns-in_ok-push-clause-ok c = grind (arith, common_steps, c.in_ok-push.ensures.items, c.in_ok-block_of.ensures, c.requires.kept, c.if-count-eq0.true, in_new)
+returns-in_ok-push-clause-ok c =
+    grind (arith, common_steps, c.in_ok-push.ensures.items, c.in_ok-block_of.ensures, c.requires.kept, c.if-count-eq0.true, in_new)
 
 pub returns-else-count-eq0-clause-ok : goal.returns-else-count-eq0-clause-ok
 returns-else-count-eq0-clause-ok c = grind (arith, common_steps, c.requires.kept, c.if-count-eq0.false, in_last, on_ok_weaker)

@@ -19,7 +19,8 @@ returns-then-after-eq0-clause-point c =
     none_below n blocks c.requires.blocked c.requires.parted after cut c.if-after-eq0.true
 
 pub overflow_mul-result : goal.overflow_mul-result
-overflow_mul-result c = omega (arith, c.if-after-eq0.false, c.partition_point-after.ensures.bound, c.requires.room, c.requires.blocked, length_blocks)
+overflow_mul-result c =
+    omega (arith, c.if-after-eq0.false, c.partition_point-after.ensures.bound, c.requires.room, c.requires.blocked, length_blocks)
 
 pub count_in-requires-clause-typed : goal.count_in-requires-clause-typed
 count_in-requires-clause-typed c =

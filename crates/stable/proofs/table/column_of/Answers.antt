@@ -12,7 +12,8 @@ cell_is : (c : goal.After-as_ref)
 cell_is c = grind (arith, common_steps)
 
 pub push-requires-clause-typed : goal.push-requires-clause-typed
-push-requires-clause-typed c = grind (arith, common_steps, c.requires.within, c.requires.fitting, c.loop-row-test.true, c.loop-row.invariant, fit_at, cell_is)
+push-requires-clause-typed c =
+    grind (arith, common_steps, c.requires.within, c.requires.fitting, c.loop-row-test.true, c.loop-row.invariant, fit_at, cell_is)
 
 pub push-requires-clause-short : goal.push-requires-clause-short
 push-requires-clause-short c =

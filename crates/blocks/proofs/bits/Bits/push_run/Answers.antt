@@ -9,7 +9,8 @@ use Rattle.blocks.proofs.bits.Bits.push_run.Goals as goal
 use Rattle.std.proofs.lemmas.Grind.{common_steps}
 
 pub add_run-requires : goal.add_run-requires
-add_run-requires c = grind (arith, common_steps, c.requires.few, c.self.invariant.whole, c.self.invariant, c.requires.within, length-truths, are_packed)
+add_run-requires c =
+    grind (arith, common_steps, c.requires.few, c.self.invariant.whole, c.self.invariant, c.requires.within, length-truths, are_packed)
 
 -- the run has as many truths as were asked for
 long : (c : In_ok-add_run) → length (take c.args.count (drop c.args.start c.args.others.now)) ≡ c.args.count

@@ -9,4 +9,5 @@ pub shift_before-requires : goal.shift_before-requires
 shift_before-requires g c = grind (arith, common_steps, c.self.invariant.ordered, ordered_from_lawful)
 
 pub returns-clause-shift : goal.returns-clause-shift
-returns-clause-shift g c = grind (arith, common_steps, c.shift_before.ensures.shift, c.self.invariant.counted, shift-is, total-is, shift_within, ints)
+returns-clause-shift g c =
+    grind (arith, common_steps, c.shift_before.ensures.shift, c.self.invariant.counted, shift-is, total-is, shift_within, ints)

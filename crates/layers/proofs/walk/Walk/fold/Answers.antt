@@ -8,10 +8,12 @@ pub loop-upper-preserved-in-Continue-branch-2 : goal.loop-upper-preserved-in-Con
 loop-upper-preserved-in-Continue-branch-2 c = grind (arith, common_steps, c.loop-upper.invariant, c.first.ensures, c.in-Some.is, c.in-Upper.is, c.meet.ensures, c.in_ok-put_upper-in-Upper.ensures.out, c.in_ok-put_upper-in-Upper.ensures.uppers, c.put_upper.ensures.key_cols, c.put_upper.ensures.added, c.put_upper.ensures.gone, upper_put, placed_left)
 
 pub returns-in-Over-clause-folded : goal.returns-in-Over-clause-folded
-returns-in-Over-clause-folded c = grind (arith, common_steps, c.loop-upper.invariant, c.first.ensures, c.in-Some.is, c.in-Over.is, c.meet.ensures, lower_over)
+returns-in-Over-clause-folded c =
+    grind (arith, common_steps, c.loop-upper.invariant, c.first.ensures, c.in-Some.is, c.in-Over.is, c.meet.ensures, lower_over)
 
 pub returns-in-Neither-clause-placed : goal.returns-in-Neither-clause-placed
-returns-in-Neither-clause-placed c = grind (arith, common_steps, c.count.ensures.uppers, c.pass.ensures, c.loop-upper.invariant.placed, placed_left)
+returns-in-Neither-clause-placed c =
+    grind (arith, common_steps, c.count.ensures.uppers, c.pass.ensures, c.loop-upper.invariant.placed, placed_left)
 
 pub loop-upper-preserved : goal.loop-upper-preserved
 loop-upper-preserved c = grind (arith, common_steps, c.loop-upper.invariant, c.first.ensures, c.in-Some.is, c.in-Into.is, c.meet.ensures, c.in_ok-own-in-Into.ensures, c.pass-in-Into.ensures, into_own, placed_left)

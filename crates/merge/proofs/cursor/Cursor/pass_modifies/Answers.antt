@@ -10,13 +10,15 @@ use Rattle.merge.proofs.cursor.Cursor.pass_modifies.Goals as goal
 use Rattle.std.proofs.lemmas.Grind.{common_steps}
 
 pub overflow_cast-sid : goal.overflow_cast-sid
-overflow_cast-sid c = grind (arith, common_steps, c.sid-sid.ensures, c.requires.next.here, c.requires.is.1.lawful, c.requires.next.next, placed_at)
+overflow_cast-sid c =
+    grind (arith, common_steps, c.sid-sid.ensures, c.requires.next.here, c.requires.is.1.lawful, c.requires.next.next, placed_at)
 
 pub overflow_add-first : goal.overflow_add-first
 overflow_add-first c = grind (arith, common_steps, c.index-first.ensures, c.requires.is.1.lawful, c.requires.next.next, place_fits)
 
 pub overflow_add-first-in-Some-1 : goal.overflow_add-first-in-Some-1
-overflow_add-first-in-Some-1 c = grind (arith, common_steps, c.index-first.ensures, c.requires.is.1.lawful, c.requires.next.next, place_fits)
+overflow_add-first-in-Some-1 c =
+    grind (arith, common_steps, c.index-first.ensures, c.requires.is.1.lawful, c.requires.next.next, place_fits)
 
 pub returns-then-last-first-clause-passed : goal.returns-then-last-first-clause-passed
 returns-then-last-first-clause-passed c =

@@ -35,4 +35,5 @@ pub returns-then-sid-clause-rest : goal.returns-then-sid-clause-rest
 returns-then-sid-clause-rest c = grind (arith, common_steps, c.loop-entry.invariant, c.next_entry.ensures, c.in-Some.is, c.if-sid.true, c.sid.ensures, c.sid-in-Some.ensures, entries_past-other)
 
 pub returns-in_default-clause-rest : goal.returns-in_default-clause-rest
-returns-in_default-clause-rest c = grind (arith, common_steps, c.next_entry.ensures, c.in_default.is, c.loop-entry.invariant.rest, entries_past-none)
+returns-in_default-clause-rest c =
+    grind (arith, common_steps, c.next_entry.ensures, c.in_default.is, c.loop-entry.invariant.rest, entries_past-none)

@@ -11,7 +11,8 @@ pub returns-in-Modified-clause-rows : goal.returns-in-Modified-clause-rows
 returns-in-Modified-clause-rows c = grind (arith, common_steps)
 
 pub returns-in-Kept-clause-stretch : goal.returns-in-Kept-clause-stretch
-returns-in-Kept-clause-stretch g c = grind (arith, common_steps, c.skip_deleted.ensures.depth, c.requires.sound.2, c.next_stretch-stretch.ensures.stretch, stretch_above)
+returns-in-Kept-clause-stretch g c =
+    grind (arith, common_steps, c.skip_deleted.ensures.depth, c.requires.sound.2, c.next_stretch-stretch.ensures.stretch, stretch_above)
 
 -- ---- over other stable rows
 

@@ -26,4 +26,5 @@ prove-unreachable-requires c =
     )
 
 pub returns-in-Inserted : goal.returns-in-Inserted
-returns-in-Inserted c = grind (arith, common_steps, c.in-Inserted.is, c.requires, c.cells.ensures, c.index-cells-col.is, c.as_ref.ensures, slice_get-get_or)
+returns-in-Inserted c =
+    grind (arith, common_steps, c.in-Inserted.is, c.requires, c.cells.ensures, c.index-cells-col.is, c.as_ref.ensures, slice_get-get_or)

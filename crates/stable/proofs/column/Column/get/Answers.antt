@@ -9,7 +9,8 @@ pub index-requires : goal.index-requires
 index-requires c = grind (arith, common_steps, c.requires, c.self.invariant.blocked.counted, c.self.invariant.blocked, has_block)
 
 pub get-requires : goal.get-requires
-get-requires c = grind (arith, common_steps, c.requires, c.self.invariant.blocked.counted, c.self.invariant.blocked, c.index.ensures, has_place)
+get-requires c =
+    grind (arith, common_steps, c.requires, c.self.invariant.blocked.counted, c.self.invariant.blocked, c.index.ensures, has_place)
 
 pub returns : goal.returns
 returns c =

@@ -11,7 +11,8 @@ use Rattle.txn.proofs.transaction.Txn.table_between.Goals as goal
 use Rattle.std.proofs.lemmas.Grind.{common_steps}
 
 pub table_between-requires : goal.table_between-requires
-table_between-requires c = grind (arith, common_steps, c.layers.ensures.rows, c.layers.ensures.lawful, c.layers.ensures.lawful.limited, length-map, image_within)
+table_between-requires c =
+    grind (arith, common_steps, c.layers.ensures.rows, c.layers.ensures.lawful, c.layers.ensures.lawful.limited, length-map, image_within)
 
 pub returns : goal.returns
 returns c = grind (arith, common_steps, c.layers.ensures.schema, c.layers.ensures.rows, c.table_between.ensures)

@@ -11,7 +11,8 @@ use Rattle.txn.proofs.transaction.Txn.to_table.Goals as goal
 use Rattle.std.proofs.lemmas.Grind.{common_steps}
 
 pub to_table-requires : goal.to_table-requires
-to_table-requires c = grind (arith, common_steps, c.layers.ensures.rows, c.layers.ensures.lawful, c.layers.ensures.lawful.limited, length-map, image_within)
+to_table-requires c =
+    grind (arith, common_steps, c.layers.ensures.rows, c.layers.ensures.lawful, c.layers.ensures.lawful.limited, length-map, image_within)
 
 pub returns : goal.returns
 returns c = grind (arith, common_steps, c.layers.ensures.schema, c.layers.ensures.rows, c.to_table.ensures)
