@@ -89,16 +89,18 @@ impl Target {
         }
     }
 
-    /// Which of those from one up to another is looked at next: by a SID the one in the middle. By a position it is the first,
-    /// since what those before it add is added up from the left.
+    /// Which of those from one up to another is looked at next, of so many: by a SID the one in the middle, and the last one of all
+    /// before that, since keys that ascend go behind it. By a position it is the first, since what those before it add is added up
+    /// from the left.
     #[inline(always)]
-    fn next_of(self, low: usize, high: usize) -> usize
+    fn next_of(self, low: usize, high: usize, count: usize) -> usize
         requires { low < high }
         ensures low { low ≤ result }
         ensures high { result < high }
         ensures up { (up : ℤ) (sum : ℕ → ℤ) → IsUp self up (sum low) → IsUp self up (sum result) }
     {
         match self {
+            Target::Sid(_) if high == count => high - 1,
             Target::Sid(_) => low + (high - low) / 2,
             Target::Rid(_) => low,
         }
@@ -188,7 +190,7 @@ fn child_before<P: Probe, L: Ledger>(
     let mut high = children.len();
     let mut up = target.up_past_child(shift, children, low);
     while low + 1 < high {
-        let next = target.next_of(low + 1, high);
+        let next = target.next_of(low + 1, high, children.len());
         if begins_before(&children[next], target, up, probe, steps) {
             low = next;
             up = target.up_past_child(up, children, low);
@@ -260,7 +262,7 @@ fn place_in<P: Probe>(entries: &[SharedEntry], target: Target, shift: i64, probe
     let mut high = entries.len();
     let mut up = shift;
     while low < high {
-        let next = target.next_of(low, high);
+        let next = target.next_of(low, high, entries.len());
         if entries[next].is_before(target, up, probe) {
             low = next + 1;
             up = target.up_past_entry(up, entries, next);
