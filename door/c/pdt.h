@@ -145,8 +145,8 @@ typedef struct pdt_column {
    PDT_TOO_MANY_ROWS, PDT_BAD_LIMIT, PDT_NOMEM, PDT_MISUSE: *store is null then. place may be null.
    The values are copied into the table, and may go after the call; no row is made.
    A column with PDT_OUTSIDE, which is none of the key, is handed over without values: 0, a text of no bytes or false stands for each,
-   until a transaction sets it. A number of those takes no memory as long as no other of its block of 1,024 rows is set, a truth a bit
-   and a text four bytes. PDT_MISUSE where one has values. */
+   until a transaction sets it. A number or a text of those takes no memory as long as no other of its block of 1,024 rows is set, a truth
+   a bit. PDT_MISUSE where one has values. */
 pdt_code pdt_open_columns(const pdt_column *columns, size_t count, size_t key, const pdt_options *options, pdt_place *place,
                           pdt_store **store);
 

@@ -1,4 +1,5 @@
 mod BitsLemmas
+mod CopiesLemmas
 mod CutsLemmas
 mod EncodingLemmas
 mod FitLemmas

@@ -1,5 +1,6 @@
 pub mod Cells
 pub mod Column
+pub mod Copies
 pub mod Cuts
 pub mod Encoding
 pub mod Ints

@@ -17,6 +17,7 @@ mod ints;
 mod laws;
 mod payload;
 mod reading;
+mod spelled;
 mod texts;
 
 pub use bits::Bits;

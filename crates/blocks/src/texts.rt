@@ -1,9 +1,12 @@
-//! Texts in one buffer, with the offset at which each ends.
-ghost use Rattle.std.specs.Prelude.{◌≡◌, ◌<◌, ◌≤◌, ◌+◌, ◌-◌, ◌*◌, ◌^◌, ◌++◌, ◌∷◌, [], List, ℕ, length, map, take, drop, Some, slice_get, slice_index_or, IfOk, OnOk, OnErr, string_bytes, vec_len, vec_capacity};
-ghost use Rattle.std.specs.List.{All, AllByRecursion};
-ghost use Rattle.blocks.specs.Cuts.{IsText};
+//! The texts of a block. Where all are equal one is spelled out, and the others are only counted: what is stored once for 1,024 rows is
+//! kept once too.
+ghost use Rattle.std.specs.Prelude.{◌≡◌, ◌<◌, ◌≤◌, ◌+◌, ◌*◌, ◌++◌, ◌∷◌, [], true, length, replicate, take, drop, Some, slice_get, IfOk, OnOk, OnErr};
+ghost use Rattle.std.specs.List.{AllByRecursion};
 ghost use Rattle.values.specs.declared.limits.TheConstants.{MAX_TEXT_BYTES, MAX_BLOCK_VALUES};
+ghost use Rattle.blocks.specs.Cuts.{IsText};
+ghost use Rattle.blocks.specs.Copies.{AreTexts, texts_of};
 
+use crate::spelled::Spelled;
 use std::alloc::Global;
 use std::marker::Model;
 use values::NoMemory;
@@ -12,21 +15,21 @@ use values::NoMemory;
 /// its own.
 #[derive(Drop)]
 pub struct Texts {
-    /// The texts, one after the other.
-    pub(crate) text: String,
-    /// Where each text ends in it. A full block has at most 4 MiB, so 32 bits hold each.
-    pub(crate) ends: Vec<u32>,
+    /// The texts, spelled out: one alone where it has copies.
+    given: Spelled,
+    /// How many times more that one comes.
+    copies: usize,
 }
 
 impl Model for Texts {
-    ghost use Rattle.std.specs.Prelude.{List, ℕ, string_bytes};
-    ghost use Rattle.blocks.specs.Cuts.{cut, IsCut};
+    ghost use Rattle.std.specs.Prelude.{List, ℕ};
+    ghost use Rattle.blocks.specs.Copies.{AreTexts, texts_of};
 
     ghost Value = { List (List ℕ) };
 
-    ghost view = { λ t. cut 0 t.ends.items (string_bytes t.text) };
+    ghost view = { λ t. texts_of t.given t.copies };
 
-    ghost invariant = { λ t. IsCut t.ends.items (string_bytes t.text) };
+    ghost invariant = { λ t. AreTexts t.given t.copies };
 }
 
 impl Texts {
@@ -35,8 +38,8 @@ impl Texts {
         ensures { result ≡ [] }
     {
         Texts {
-            text: String::new(alloc),
-            ends: Vec::new(alloc),
+            given: Spelled::new(alloc),
+            copies: 0,
         }
     }
 
@@ -48,9 +51,10 @@ impl Texts {
     pub(crate) fn with_room(alloc: Global, count: usize, bytes: usize) -> Result<Texts, NoMemory>
         ensures { IfOk result (λ texts. texts ≡ []) }
     {
-        let text = String::with_capacity(alloc, bytes)?;
-        let ends = Vec::with_capacity(alloc, count)?;
-        Ok(Texts { text, ends })
+        Ok(Texts {
+            given: Spelled::with_room(alloc, count, bytes)?,
+            copies: 0,
+        })
     }
 
     /// How many texts there are, at most 1,024.
@@ -58,7 +62,7 @@ impl Texts {
         ensures len { result ≡ length self.now }
         ensures few { result ≤ MAX_BLOCK_VALUES }
     {
-        self.ends.len()
+        self.given.len() + self.copies
     }
 
     /// How many bytes the first `count` texts have together.
@@ -66,7 +70,11 @@ impl Texts {
         requires { count ≤ length self.now }
         ensures { result ≤ MAX_TEXT_BYTES * MAX_BLOCK_VALUES }
     {
-        begin_of(self.ends.as_slice(), count)
+        if self.copies == 0 {
+            self.given.byte_len(count)
+        } else {
+            count * self.given.get(0).len()
+        }
     }
 
     /// The text number `i`, lent.
@@ -76,8 +84,8 @@ impl Texts {
         ensures text { slice_get self.now i ≡ Some result.now }
         ensures short { length result.now ≤ MAX_TEXT_BYTES }
     {
-        let ends = self.ends.as_slice();
-        &self.text.as_str()[begin_of(ends, i)..begin_of(ends, i + 1)]
+        let at = if self.copies == 0 { i } else { 0 };
+        self.given.get(at)
     }
 
     /// Puts a text after the others. With `NoMemory` the texts are as they were.
@@ -93,10 +101,13 @@ impl Texts {
         ensures err { OnErr result (self.new ≡ self.old) }
         ensures fit { AllByRecursion IsText self.new }
     {
-        self.ends.reserve(1)?;
-        self.text.push_str(text)?;
-        self.ends.push_reserved(self.text.len() as u32);
-        Ok(())
+        let Texts { given, copies } = self;
+        if is_one(given, text) {
+            *copies += 1;
+            return Ok(());
+        }
+        spell_out(given, copies)?;
+        given.push(text)
     }
 
     /// Puts so many texts of others, from one of them on, after these: one copy of their bytes, and an end for each. With
@@ -117,15 +128,37 @@ impl Texts {
         ensures err { OnErr result (self.new ≡ self.old) }
         ensures fit { AllByRecursion IsText self.new }
     {
-        let ends = others.ends.as_slice();
-        let length = ends.len();
-        prove!(start + count <= length);
-        let from = begin_of(ends, start);
-        let to = begin_of(ends, start + count);
-        let before = self.text.len();
-        self.ends.reserve(count)?;
-        self.text.push_str(&others.text.as_str()[from..to])?;
-        add_ends(&mut self.ends, &ends[start..start + count], from, before);
+        if others.copies > 0 {
+            return self.push_copies(others.given.get(0), count);
+        }
+        let Texts { given, copies } = self;
+        spell_out(given, copies)?;
+        given.push_run(&others.given, start, count)
+    }
+
+    /// Puts a text so many times after the others. With `NoMemory` the texts are as they were.
+    fn push_copies(&mut self, text: &str, count: usize) -> Result<(), NoMemory>
+        requires few { length self.old + count ≤ MAX_BLOCK_VALUES }
+        requires short { length text.now ≤ MAX_TEXT_BYTES }
+        ensures ok { OnOk result (self.new ≡ self.old ++ replicate count text.now) }
+        ensures err { OnErr result (self.new ≡ self.old) }
+        ensures fit { AllByRecursion IsText self.new }
+    {
+        let Texts { given, copies } = self;
+        if count == 0 {
+            return Ok(());
+        }
+        if is_one(given, text) {
+            *copies += count;
+            return Ok(());
+        }
+        if given.len() == 0 {
+            given.push(text)?;
+            *copies = count - 1;
+            return Ok(());
+        }
+        spell_out(given, copies)?;
+        *given = given.with_copies(text, count)?;
         Ok(())
     }
 
@@ -137,28 +170,32 @@ impl Texts {
     pub(crate) fn copy(&self) -> Result<Texts, NoMemory>
         ensures { IfOk result (λ copied. copied ≡ self.now) }
     {
-        let text = self.text.clone()?;
-        let ends = self.ends.clone()?;
-        Ok(Texts { text, ends })
+        Ok(Texts {
+            given: self.given.copy()?,
+            copies: self.copies,
+        })
     }
 }
 
-/// Where the text number `i` begins: where the one before it ends. One past the last begins where the last ends.
+/// Whether there is one text alone, this one.
 #[inline(always)]
-fn begin_of(ends: &[u32], i: usize) -> usize
-    requires { i ≤ length ends.now }
-    ensures { result ≡ slice_index_or (0 ∷ ends.now) i 0 }
+fn is_one(given: &Spelled, text: &str) -> bool
+    ensures { result ≡ true → given.now ≡ text.now ∷ [] }
 {
-    if i == 0 { 0 } else { ends[i - 1] as usize }
+    given.len() == 1 && given.get(0) == text
 }
 
-/// Puts ends after the others: what ended so far behind `from` ends as far behind `to`. There is room for them.
-fn add_ends(ends: &mut Vec<u32>, more: &[u32], from: usize, to: usize)
-    requires room { vec_len ends.old + length more.now ≤ vec_capacity ends.old }
-    requires moved { All (λ end. (from ≤ end) × (to + (end - from) < 2 ^ 32)) more.now }
-    ensures { ends.new.items ≡ ends.old.items ++ map (λ end. to + (end - from)) more.now }
+/// Spells copies out, where there are some. With `NoMemory` they are only counted, as before.
+#[inline(always)]
+fn spell_out(given: &mut Spelled, copies: &mut usize) -> Result<(), NoMemory>
+    requires { AreTexts given.old copies.old }
+    ensures ok { OnOk result ((copies.new ≡ 0) × (given.new ≡ texts_of given.old copies.old) × AllByRecursion IsText given.new) }
+    ensures err { OnErr result ((copies.new ≡ copies.old) × (given.new ≡ given.old)) }
 {
-    for end in more {
-        ends.push_reserved((to + (*end as usize - from)) as u32);
+    if *copies > 0 {
+        let longer = given.with_copies(given.get(0), *copies)?;
+        *given = longer;
+        *copies = 0;
     }
+    Ok(())
 }

@@ -231,7 +231,17 @@ static void outside_values(void) {
   is("close", PDT_OK, pdt_close(store));
 }
 
+/* How much memory the process has from malloc. */
+static size_t in_use(void) {
 #ifdef __SANITIZE_ADDRESS__ /* which has a malloc of its own, that counts nothing */
+  return 0;
+#else
+  struct mallinfo2 now = mallinfo2();
+  return now.uordblks + now.hblkhd;
+#endif
+}
+
+#ifdef __SANITIZE_ADDRESS__
 static void outside_memory(void) {}
 #else
 /* The memory of a store of so many rows with so many numbers outside. */
@@ -244,11 +254,11 @@ static size_t taken_by(size_t outside) {
     sprintf(names[i], "c%zu", i);
     table[i] = (pdt_column){names[i], PDT_INT | PDT_OUTSIDE, MANY, NULL, NULL, NULL, 0};
   }
-  struct mallinfo2 before = mallinfo2();
+  size_t before = in_use();
   is("open", PDT_OK, pdt_open_columns(table, 1 + outside, 1, NULL, NULL, &store));
-  struct mallinfo2 after = mallinfo2();
+  size_t after = in_use();
   is("close", PDT_OK, pdt_close(store));
-  return after.uordblks + after.hblkhd - before.uordblks - before.hblkhd;
+  return after - before;
 }
 
 /* Thirty columns of a million numbers outside take less than a quarter of what one column of numbers does. */
@@ -331,6 +341,75 @@ static void images(void) {
   let_go(&image);
 }
 
+enum { EQUAL = 4000, LONG = 4096, CHANGED = 1500 };
+static const pdt_options keeps_few = {sizeof keeps_few, 64, 0, false}; /* the room for commits that are kept has a size of its own */
+
+/* Each row of a table of equal texts, but for one that may be another. */
+static void texts_are(pdt_store *store, const char *text, const char *changed) {
+  static const int rows[] = {0, 1, 1023, 1024, CHANGED - 1, CHANGED, CHANGED + 1, EQUAL - 1};
+  static char found[LONG];
+  pdt_txn *txn = NULL;
+  is("begin", PDT_OK, pdt_begin(store, &txn));
+  for (size_t i = 0; i < sizeof rows / sizeof *rows; i++) {
+    const char *wanted = rows[i] == CHANGED ? changed : text;
+    int64_t cells[2];
+    size_t len = 0;
+    is("row", PDT_OK, pdt_row_at(txn, (uint64_t)rows[i], cells, found, sizeof found, &len));
+    is("a text's length", (long long)strlen(wanted), (long long)len);
+    is("a text", 0, memcmp(wanted, found, len));
+  }
+  pdt_abort(txn);
+}
+
+/* Makes an image, and opens it: what the image and the table opened from it take. */
+static pdt_store *opened_again(pdt_store *store, size_t *stored, size_t *taken_in) {
+  taken image = {{NULL}, {0}, 0, 0};
+  let_go(&image);
+  is("checkpoint", PDT_OK, pdt_checkpoint_to(store, take, &image, NULL));
+  is("close", PDT_OK, pdt_close(store));
+  pdt_bytes parts[] = {{image.bytes[1], image.len[1]}, {image.bytes[2], image.len[2]}};
+  size_t before = in_use();
+  is("recover", PDT_OK, pdt_recover_from(image.bytes[0], image.len[0], parts, 2, &keeps_few, NULL, &store));
+  *stored = image.len[1] + image.len[2];
+  *taken_in = in_use() - before;
+  let_go(&image);
+  return store;
+}
+
+/* Four thousand rows have the same text of 4,096 bytes. It is stored and kept once for each 1,024 of them, so that an image of 100 KB
+   doesn't want 16 MB. Where one row has another text its block is spelled out. */
+static void equal_texts(void) {
+  size_t len = (size_t)EQUAL * LONG, stored = 0, opened = 0;
+  char *bytes = malloc(len), text[LONG + 1];
+  uint64_t *places = malloc((EQUAL + 1) * sizeof *places);
+  int64_t *keys = malloc(EQUAL * sizeof *keys);
+  memset(bytes, 'x', len), memset(text, 'x', LONG), text[LONG] = 0;
+  for (int row = 0; row <= EQUAL; row++) places[row] = (uint64_t)row * LONG;
+  for (int row = 0; row < EQUAL; row++) keys[row] = row;
+  pdt_column table[] = {{"id", PDT_INT, EQUAL, keys, NULL, NULL, 0}, {"text", PDT_TEXT, EQUAL, NULL, places, (uint8_t *)bytes, len}};
+  pdt_store *store = NULL;
+  size_t before = in_use();
+  is("open", PDT_OK, pdt_open_columns(table, 2, 1, &keeps_few, NULL, &store));
+  is("equal texts that are handed over", 1, in_use() - before < len / 32);
+  free(bytes), free(places), free(keys);
+  texts_are(store, text, text);
+  store = opened_again(store, &stored, &opened);
+  is("equal texts that are stored", 1, stored < len / 100);
+  is("equal texts that are read", 1, opened < len / 32);
+  texts_are(store, text, text);
+  pdt_txn *txn = NULL;
+  int64_t key = CHANGED;
+  is("begin", PDT_OK, pdt_begin(store, &txn));
+  is("set", PDT_OK, pdt_set(txn, &key, NULL, 0, 1, 5, "other"));
+  is("commit", PDT_OK, pdt_commit(txn, NULL));
+  texts_are(store, text, "other");
+  store = opened_again(store, &stored, &opened);
+  is("one block that is spelled out", 1, stored > 1000 * (size_t)LONG && stored < 1100 * (size_t)LONG);
+  is("the other blocks", 1, opened < 1100 * (size_t)LONG);
+  texts_are(store, text, "other");
+  is("close", PDT_OK, pdt_close(store));
+}
+
 /* A write may make calls on the store: what it commits comes after the image. */
 static int commits(void *context, size_t column, const uint8_t *bytes, size_t len) {
   (void)column, (void)bytes, (void)len;
@@ -397,6 +476,7 @@ int main(int argc, char **argv) {
   outside_values();
   outside_memory();
   images();
+  equal_texts();
   meanwhile();
   no_files(argv[1]);
   full_disk(argv[1]);

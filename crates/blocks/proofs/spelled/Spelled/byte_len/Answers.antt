@@ -1,6 +1,6 @@
 use Rattle.std.proofs.Common.{arith}
 use Rattle.blocks.proofs.CutsLemmas.{length-cut, begin_within, buffer-short}
-use Rattle.blocks.proofs.texts.Texts.byte_len.Goals as goal
+use Rattle.blocks.proofs.spelled.Spelled.byte_len.Goals as goal
 use Rattle.std.proofs.lemmas.Grind.{common_steps}
 
 pub begin_of-requires : goal.begin_of-requires

@@ -1,6 +1,6 @@
 use Rattle.std.proofs.Common.{◌≡◌, ◌+◌, ◌-◌, ◌++◌, map, take}
 use Rattle.std.specs.Prelude.{vec_len, vec_capacity}
-use Rattle.blocks.proofs.texts.add_ends.Given as goal
+use Rattle.blocks.proofs.spelled.add_ends.Given as goal
 
 abbrev pub invariant-loop-end : goal.invariant-loop-end
 invariant-loop-end l = record {

@@ -1,6 +1,6 @@
 use Rattle.std.proofs.Common.{arith}
 use Rattle.blocks.proofs.CutsLemmas.{length-cut}
-use Rattle.blocks.proofs.texts.Texts.len.Goals as goal
+use Rattle.blocks.proofs.spelled.Spelled.len.Goals as goal
 use Rattle.std.proofs.lemmas.Grind.{common_steps}
 
 pub returns-clause-len : goal.returns-clause-len

@@ -1,8 +1,8 @@
 use Rattle.std.proofs.Common.{◌≡◌, ◌<◌, ◌+◌, ◌-◌, ◌∷◌, length, take, drop, get_or, slice_range, sym, ap, subst, ◌∙◌, arith, IsCharBoundary}
 use Rattle.std.specs.Prelude.{string_bytes}
 use Rattle.blocks.proofs.CutsLemmas.{Lies, length-cut, lies}
-use Rattle.blocks.proofs.texts.Texts.get.Goals.{After-as_slice-ends, After-begin_of-2, After-range}
-use Rattle.blocks.proofs.texts.Texts.get.Goals as goal
+use Rattle.blocks.proofs.spelled.Spelled.get.Goals.{After-as_slice-ends, After-begin_of-2, After-range}
+use Rattle.blocks.proofs.spelled.Spelled.get.Goals as goal
 use Rattle.std.proofs.lemmas.Grind.{common_steps}
 
 -- the text has an end among the ends
