@@ -29,6 +29,17 @@ static RUNS: [(&str, &[Run]); 5] = [
     ),
 ];
 
+/// The name that a row has with many others: a block of one name alone, one of two, and one in which another stands between equal ones.
+fn shared_name(number: u16) -> &'static str {
+    if number < 1_300 {
+        NAMES[0]
+    } else if number == 2_100 {
+        NAMES[2]
+    } else {
+        NAMES[3]
+    }
+}
+
 /// The row of a number.
 fn row_of(alloc: Global, number: u16) -> Result<Row, NoMemory> {
     let name = NAMES[usize::from(number % 4)];
@@ -38,16 +49,18 @@ fn row_of(alloc: Global, number: u16) -> Result<Row, NoMemory> {
             ValueRef::Int(i64::from(number)),
             ValueRef::Text(name),
             ValueRef::Bool(number % 3 == 0),
+            ValueRef::Text(shared_name(number)),
         ],
     )
 }
 
-/// A table with a column of each type.
+/// A table with a column of each type, and one of texts of which many are equal.
 fn table_of_all(alloc: Global) -> Result<StableTable, Fail> {
     let cols = [
         ("id", ColumnType::Int),
         ("name", ColumnType::Text),
         ("third", ColumnType::Bool),
+        ("shared", ColumnType::Text),
     ];
     let mut rows = Vec::new(alloc);
     for number in 0..COUNT {
@@ -117,7 +130,7 @@ fn assert_extended(
 #[test]
 fn runs_begin_and_end_anywhere(rt: HostRuntime) -> Result<(), Fail> {
     let table = table_of_all(rt.alloc())?;
-    for col in 0..3 {
+    for col in 0..4 {
         assert!(&rt; col < table.schema().width());
         for case in &RUNS {
             assert_extended(&rt, rt.alloc(), table.column(col), *case)?;
