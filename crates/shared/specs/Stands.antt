@@ -5,6 +5,8 @@ use Rattle.model.specs.declared.write.CommitReply.{CommitReply}
 use Rattle.model.specs.declared.write.CommitReply.TheVariants.{Committed, Conflict, TooOld, Full}
 use Rattle.manager.specs.Layers.{AreWritten}
 use Rattle.manager.specs.Managed.{Managed}
+use Rattle.manager.specs.Prepared.{Prepared, IsPrepared}
+use Rattle.manager.specs.Replaced.{Released, released_by}
 use Rattle.manager.specs.declared.fault.CheckpointFault.{CheckpointFault}
 use Rattle.manager.specs.declared.fault.CheckpointFault.TheVariants.{StoreFailed, GenerationsSpent, NoMemory, DeviceFailed}
 use Rattle.txn.specs.Txn.{Transaction}
@@ -32,6 +34,10 @@ IsShownAfter o layers x (Committed n) list = AreWritten layers x (shown_in o lis
 IsShownAfter o layers x (Conflict n) list = Unit {0}
 IsShownAfter o layers x (TooOld n) list = Unit {0}
 IsShownAfter o layers x (Full n) list = Unit {0}
+
+-- what comes out of a commit: all that is let go of where what was prepared for it is installed
+abbrev pub IsReleased : Managed → Transaction → Released → Type 0
+IsReleased m txn released = (p : Prepared) × IsPrepared m txn p × (released ≡ released_by m txn p)
 
 -- the list after a checkpoint: this version was published before the devices were handed its table
 abbrev pub IsShownBefore : List Item → LayeredVersion → Result ℕ CheckpointFault → List Item → Type 0

@@ -8,12 +8,12 @@ ghost use Rattle.publishing.specs.Lists.{IsBegun, IsCutAfter, IsListed, IsOfList
 ghost use Rattle.shared.specs.Endings.{GoesOn};
 ghost use Rattle.shared.specs.Generations.{IsAnswered};
 ghost use Rattle.shared.specs.Sessions.{IsReplied, number_of};
-ghost use Rattle.shared.specs.Stands.{IsGrown, IsShownAfter, IsShownBefore};
+ghost use Rattle.shared.specs.Stands.{IsGrown, IsReleased, IsShownAfter, IsShownBefore};
 
 use crate::laws::kept;
 use crate::publisher::Publisher;
 use crate::store::{ImageStore, exchange};
-use manager::{CheckpointFault, History, Manager};
+use manager::{CheckpointFault, History, Manager, Released};
 use model::CommitReply;
 use publishing::{Opening, SeenList};
 use std::marker::Model;
@@ -108,7 +108,8 @@ impl<O: Opening, S: ImageStore> Locked<O, S> {
     }
 
     /// Commits the transaction of a session that has seen some of the list: learns what the session has seen, prepares,
-    /// publishes, installs, and tells the session. The session has then seen the whole list.
+    /// publishes, installs, and tells the session. The session has then seen the whole list. What the commit lets go of comes
+    /// out, so that the caller frees it without the lock.
     ///
     /// # Errors
     ///
@@ -120,7 +121,7 @@ impl<O: Opening, S: ImageStore> Locked<O, S> {
         txn: Txn,
         share: &mut Share<O>,
         seen: &mut SeenList,
-    ) -> Result<(CommitReply, SeenList), (Txn, Refused)>
+    ) -> Result<(CommitReply, SeenList, Released), (Txn, Refused)>
         requires seen { (seen.old.opening ≡ O.opened) × IsBegun O.opened.manager seen.old.list txn }
         requires part { share.old.parts ≡ 1 }
         ensures decided { IfOk result (λ r. IsDecided self.old.manager txn r.0 self.new.manager) }
@@ -140,6 +141,7 @@ impl<O: Opening, S: ImageStore> Locked<O, S> {
         ensures stranger { IfErr result (λ e. e.1 ≡ Refused.Stranger → number_in O.opened.manager [] < number_in O.opened.manager seen.old.list) }
         ensures opening { seen.new.opening ≡ O.opened }
         ensures next { self.new.next ≡ self.old.next }
+        ensures released { IfOk result (λ r. IsReleased self.old.manager txn r.2) }
     {
         let Locked {
             manager,
@@ -158,10 +160,10 @@ impl<O: Opening, S: ImageStore> Locked<O, S> {
         let Ok(()) = publisher.show_commit(rt, manager, &txn, &prepared) else {
             return Err((txn, Refused::NoMemory));
         };
-        let reply = manager.install(txn, prepared);
+        let (reply, released) = manager.install_into(txn, prepared);
         count_reply(book, share);
         *seen = publisher.longer(&both);
-        Ok((reply, publisher.list()))
+        Ok((reply, publisher.list(), released))
     }
 
     /// Folds the Write-PDT into the Read-PDT, and publishes the same table under the manager's new layers.

@@ -7,6 +7,7 @@ ghost use Rattle.values.specs.declared.limits.TheConstants.{MAX_ROWS};
 ghost use Rattle.publishing.specs.Lists.{IsBegun, number_in};
 ghost use Rattle.publishing.specs.Views.{IsOf};
 ghost use Rattle.shared.specs.Sessions.{begun_in, new_seat, number_of, WasReplied, WasTold};
+ghost use Rattle.shared.specs.Stands.{IsReleased};
 ghost use Rattle.shared.specs.declared.fault.BeginFault.TheVariants as begin_fault;
 ghost use Rattle.shared.specs.declared.fault.CommitFault.TheVariants as commit_fault;
 
@@ -14,6 +15,7 @@ use crate::fault::{BeginFault, CommitFault, NotOpen};
 use crate::locked::{Locked, Refused};
 use crate::store::ImageStore;
 use crate::told::Told;
+use manager::Released;
 use model::CommitReply;
 use publishing::{Opening, SeenList, VersionReader, newest_seen};
 use std::alloc::Global;
@@ -221,14 +223,15 @@ impl<O: Opening> Session<O> {
         self.list = self.list.longer(&list);
     }
 
-    /// Commits the transaction over the state that the caller has locked.
+    /// Commits the transaction over the state that the caller has locked. What the commit lets go of comes out with the reply.
     pub(crate) fn commit_at<S: ImageStore, R: Wait>(
         &mut self,
         rt: &R,
         state: &mut Locked<O, S>,
-    ) -> Result<CommitReply, CommitFault>
-        ensures replied { IfOk result (λ reply. WasReplied O.opened.manager self.old self.new reply) }
-        ensures told { IfOk result (λ reply. WasTold O.opened.manager self.new (number_of reply)) }
+    ) -> Result<(CommitReply, Released), CommitFault>
+        ensures replied { IfOk result (λ r. WasReplied O.opened.manager self.old self.new r.0) }
+        ensures told { IfOk result (λ r. WasTold O.opened.manager self.new (number_of r.0)) }
+        ensures released { IfOk result (λ r. IfSome self.old.txn (λ txn. IsReleased state.old.manager txn r.1)) }
         ensures ended { OnOk result ((self.new.txn ≡ None) × (self.new.count ≡ self.old.count + 1)) }
         ensures err { OnErr result (self.new ≡ self.old) }
         ensures open { self.old.txn ≡ None → result ≡ Err commit_fault.NotOpen }
@@ -240,10 +243,10 @@ impl<O: Opening> Session<O> {
             return Err(CommitFault::NotOpen);
         };
         match state.commit(rt, txn, &mut self.share, &mut self.list) {
-            Ok((reply, note)) => {
+            Ok((reply, note, released)) => {
                 self.count += 1;
                 self.note = Some(note);
-                Ok(reply)
+                Ok((reply, released))
             }
             Err((txn, fault)) => {
                 put(&mut self.txn, txn);

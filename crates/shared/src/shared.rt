@@ -248,9 +248,12 @@ impl<O: Opening, S: ImageStore> Shared<O, S> {
         ensures client { session.new.client ≡ session.old.client }
     {
         let mut state = self.state.lock(wait);
-        let reply = session.commit_at(wait, &mut state);
+        let outcome = session.commit_at(wait, &mut state);
         MutexGuard::unlock(state);
-        reply
+        let (reply, released) = outcome?;
+        // Its trees and writes are freed here, so that nobody waits for the lock meanwhile.
+        drop(released);
+        Ok(reply)
     }
 
     /// Folds the Write-PDT into the Read-PDT, and publishes the version under its new layers. Waits for the lock.

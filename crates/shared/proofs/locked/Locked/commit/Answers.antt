@@ -5,7 +5,7 @@ use Rattle.txn.specs.Txn.{effects_of}
 use Rattle.publishing.specs.Lists.{IsListed, number_in}
 use Rattle.publishing.proofs.CallerLemmas.{listed_over}
 use Rattle.shared.specs.Endings.{GoesOn}
-use Rattle.shared.specs.Stands.{IsGrown, IsShownAfter, Stand}
+use Rattle.shared.specs.Stands.{IsGrown, IsReleased, IsShownAfter, Stand}
 use Rattle.shared.proofs.EndingLemmas.{goes_on-over, goes_on-record}
 use Rattle.shared.proofs.RepliesLemmas.{more_than_held, own_held, reached_by, replied}
 use Rattle.shared.proofs.locked.Locked.commit.Goals as goal
@@ -34,8 +34,8 @@ show_commit-requires-clause-own g c =
     own_held g.O.Opening.opened.manager _ _ both.result.list c.self.inside.manager c.args.txn both.ensures.this both.ensures.that
     le i.0 c.requires.seen.1
 
-pub install-reply-requires-clause-own : goal.install-reply-requires-clause-own
-install-reply-requires-clause-own g c =
+pub install_into-reply-requires-clause-own : goal.install_into-reply-requires-clause-own
+install_into-reply-requires-clause-own g c =
     let i = c.self.invariant in
     let both = c.longer-both in
     let le = c.is_behind.ensures.no c.if-is_behind.false in
@@ -48,9 +48,9 @@ returns-clause-replied g c =
     let i = c.self.invariant in
     let ys = c.self.inside.publisher in
     let zs = c.show_commit.new.self in
-    let reply = c.install-reply.result in
+    let reply = c.install_into-reply.result.0 in
     let le = c.is_behind.ensures.no c.if-is_behind.false in
-    let due = c.install-reply.ensures.decided.due in
+    let due = c.install_into-reply.ensures.decided.due in
     let same = c.in-Ok.ensures.prepared.due ∙ sym due in
     let grown = subst (λ (r : CommitReply). IsGrown ys zs c.args.txn r) same c.in-Ok-show_commit.ensures.grown in
     replied o c.args.seen.now.list ys c.longer-both.result.list zs c.longer.result.list c.self.inside.manager c.args.txn reply
@@ -61,8 +61,8 @@ returns-clause-reached g c =
     let o = g.O.Opening.opened.manager in
     let ys = c.self.inside.publisher in
     let zs = c.show_commit.new.self in
-    let reply = c.install-reply.result in
-    let due = c.install-reply.ensures.decided.due in
+    let reply = c.install_into-reply.result.0 in
+    let due = c.install_into-reply.ensures.decided.due in
     let same = c.in-Ok.ensures.prepared.due ∙ sym due in
     let grown = subst (λ (r : CommitReply). IsGrown ys zs c.args.txn r) same c.in-Ok-show_commit.ensures.grown in
     let told = ap (number_in o) c.list.ensures.list in
@@ -75,10 +75,10 @@ invariant_of-self-2 g c =
     let i = c.self.invariant in
     let m = c.self.inside.manager in
     let txn = c.args.txn in
-    let reply = c.install-reply.result in
-    let kept = c.install-reply.ensures.decided.kept in
-    let layers = c.install-reply.new.self.layers in
-    let same = c.in-Ok.ensures.prepared.due ∙ sym c.install-reply.ensures.decided.due in
+    let reply = c.install_into-reply.result.0 in
+    let kept = c.install_into-reply.ensures.decided.kept in
+    let layers = c.install_into-reply.new.self.layers in
+    let same = c.in-Ok.ensures.prepared.due ∙ sym c.install_into-reply.ensures.decided.due in
     let shown = c.in-Ok-show_commit.ensures in
     let list = c.show_commit.new.self in
     let listed = subst (λ (r : CommitReply). IsListed o list (with_record m (record_of txn r))) same shown.listed in
@@ -94,15 +94,22 @@ invariant_of-self-2 g c =
 pub returns-clause-grown : goal.returns-clause-grown
 returns-clause-grown g c =
     let zs = c.show_commit.new.self in
-    let same = c.in-Ok.ensures.prepared.due ∙ sym c.install-reply.ensures.decided.due in
+    let same = c.in-Ok.ensures.prepared.due ∙ sym c.install_into-reply.ensures.decided.due in
     let grown = subst (λ (r : CommitReply). IsGrown c.self.inside.publisher zs c.args.txn r) same c.in-Ok-show_commit.ensures.grown in
-    subst (λ (s : Stand). IsGrown s.list zs c.args.txn c.install-reply.result) c.self.view_is grown
+    subst (λ (s : Stand). IsGrown s.list zs c.args.txn c.install_into-reply.result.0) c.self.view_is grown
 
 pub returns-clause-shown : goal.returns-clause-shown
 returns-clause-shown g c =
     let o = g.O.Opening.opened.manager in
     let zs = c.show_commit.new.self in
     let x = effects_of c.args.txn in
-    let same = c.in-Ok.ensures.prepared.due ∙ sym c.install-reply.ensures.decided.due in
+    let same = c.in-Ok.ensures.prepared.due ∙ sym c.install_into-reply.ensures.decided.due in
     let shown = subst (λ (r : CommitReply). IsShownAfter o c.self.inside.manager.layers x r zs) same c.in-Ok-show_commit.ensures.shown in
-    subst (λ (s : Stand). IsShownAfter o s.manager.layers x c.install-reply.result zs) c.self.view_is shown
+    subst (λ (s : Stand). IsShownAfter o s.manager.layers x c.install_into-reply.result.0 zs) c.self.view_is shown
+
+pub returns-clause-released : goal.returns-clause-released
+returns-clause-released g c =
+    let install = c.install_into-reply in
+    let released : IsReleased c.self.inside.manager c.args.txn install.result.1 =
+    (c.in-Ok.prepared, c.in-Ok.ensures.prepared, install.ensures.released) in
+    subst (λ (s : Stand). IsReleased s.manager c.args.txn install.result.1) c.self.view_is released
