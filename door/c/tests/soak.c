@@ -1,18 +1,12 @@
 /* What a store keeps doesn't grow with its commits. soak N: makes N commits of one set each over a small store that keeps 64 of
-   them, with a fold each 10,000, and prints the resident memory each tenth. It fails where that has grown by more than 1 MB since the
-   first tenth. Reads /proc, as Linux has it. */
+   them, with a fold each 10,000, and prints the resident memory each tenth, and how long its begins and its commits took. It fails where
+   the memory has grown by more than 1 MB since the first tenth; the times are for people to read. Reads /proc, as Linux has it. */
 #define _POSIX_C_SOURCE 200809L
+#include "tails.h"
 #include <pdt.h>
 #include <stdio.h>
 #include <stdlib.h>
 #include <string.h>
-#include <time.h>
-
-static double now(void) {
-  struct timespec at;
-  clock_gettime(CLOCK_MONOTONIC, &at);
-  return (double)at.tv_sec + (double)at.tv_nsec / 1e9;
-}
 
 /* The memory that is resident, in KB; or -1. */
 static long resident(void) {
@@ -38,20 +32,29 @@ int main(int argc, char **argv) {
   pdt_store *store;
   pdt_code code = pdt_open_columns(columns, 2, 1, &options, NULL, &store);
   if (code) return fails("open", code);
+  static tails begins, ends; /* of a tenth */
   long first = 0;
-  double began = now();
+  int64_t start = now();
   for (long i = 1; i <= tenth * 10; i++) {
     pdt_txn *txn;
+    int64_t at = now();
     if ((code = pdt_begin(store, &txn))) return fails("begin", code);
+    add_time(&begins, now() - at);
     if ((code = pdt_set(txn, (int64_t[]){i * 7919 % ROWS}, NULL, 0, 1, i, NULL))) return fails("set", code);
+    at = now();
     if ((code = pdt_commit(txn, NULL))) return fails("commit", code);
+    add_time(&ends, now() - at);
     if (i % 10000 == 0 && (code = pdt_fold(store))) return fails("fold", code);
     if (i % tenth) continue;
     long kilobytes = resident();
     if (kilobytes < 0) return fprintf(stderr, "no resident memory is told\n"), 1;
     if (i == tenth) first = kilobytes;
-    printf("%ld commits, %.1f s: %ld KB\n", i, now() - began, kilobytes);
+    printf("%ld commits, %.1f s: %ld KB", i, (double)(now() - start) / 1e9, kilobytes);
+    print_tails("begin", &begins);
+    print_tails("commit", &ends);
+    puts("");
     fflush(stdout);
+    begins = ends = (tails){0};
     if (kilobytes - first > 1024) return fprintf(stderr, "%ld KB more than after the first tenth\n", kilobytes - first), 1;
   }
   pdt_counts counts = {.size = sizeof counts};

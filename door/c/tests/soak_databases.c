@@ -1,8 +1,9 @@
 /* A database that runs on stays as it is: soak_databases FOLDER N has two threads write a table, N commits each, while another one scans
-   it, and the upkeep folds, makes images and takes files of the journal away. It prints the resident memory, the bytes of the folder and
-   the quickest scan each tenth, and fails where the memory has grown by more than 4 MB since the third tenth, or the folder has more than
-   its bound. How long the scans take is for people to read. Reads /proc, as Linux has it. */
+   it, and the upkeep folds, makes images and takes files of the journal away. It prints the resident memory, the bytes of the folder, the
+   quickest scan, and how long the begins and the commits of both took, each tenth. It fails where the memory has grown by more than 4 MB
+   since the third tenth, or the folder has more than its bound. The times are for people to read. Reads /proc, as Linux has it. */
 #define _XOPEN_SOURCE 700
+#include "tails.h"
 #include <ftw.h>
 #include <pdt.h>
 #include <pthread.h>
@@ -11,7 +12,6 @@
 #include <stdlib.h>
 #include <string.h>
 #include <sys/stat.h>
-#include <time.h>
 
 enum { ROWS = 20000, WRITERS = 2, SETS = 3, TENTHS = 10, MOST_KB = 4096, MOST_BYTES = 6 << 20 };
 
@@ -19,14 +19,11 @@ static pdt_database *database;
 static pdt_store *store;
 static atomic_long commits;  /* of all writers */
 static atomic_llong quickest; /* of the scans since it was asked for, in nanoseconds */
+static pthread_mutex_t lock = PTHREAD_MUTEX_INITIALIZER; /* of the next two */
+static tails begins, ends;                               /* of all writers, since they were printed */
 static atomic_bool stops, failed;
 static long due;
 
-static long long now(void) {
-  struct timespec at;
-  clock_gettime(CLOCK_MONOTONIC, &at);
-  return at.tv_sec * 1000000000LL + at.tv_nsec;
-}
 static bool fails(const char *what, int code) {
   if (code) fprintf(stderr, "%s: %s\n", what, pdt_text(code)), failed = true;
   return code;
@@ -55,19 +52,39 @@ static long long bytes_of(const char *folder) {
   return bytes;
 }
 
+static void add_times(int64_t begin, int64_t end) {
+  pthread_mutex_lock(&lock);
+  add_time(&begins, begin);
+  add_time(&ends, end);
+  pthread_mutex_unlock(&lock);
+}
+static void print_times(void) {
+  pthread_mutex_lock(&lock);
+  tails all_begins = begins, all_ends = ends; /* so that no writer waits for the printing */
+  begins = ends = (tails){0};
+  pthread_mutex_unlock(&lock);
+  print_tails("begin", &all_begins);
+  print_tails("commit", &all_ends);
+}
+
 /* Each has rows of its own, so that none conflicts. */
 static void *write_on(void *context) {
   unsigned seed = (unsigned)(size_t)context;
   for (long i = 0; i < due && !failed;) {
     pdt_txn *txn;
+    int64_t at = now();
     if (fails("begin", pdt_begin(store, &txn))) return NULL;
+    int64_t begin = now() - at;
     for (int k = 0; k < SETS; k++) {
       int64_t id = WRITERS * (rand_r(&seed) % (ROWS / WRITERS)) + (int64_t)(size_t)context - 1;
       if (fails("set", pdt_set(txn, &id, NULL, 0, 1, i, NULL))) return NULL;
     }
+    at = now();
     int code = pdt_commit(txn, NULL);
+    int64_t end = now() - at;
     if (code == PDT_TOO_OLD) continue; /* the other thread has made many meanwhile */
     if (fails("commit", code)) return NULL;
+    add_times(begin, end);
     commits++;
     i++;
   }
@@ -80,9 +97,9 @@ static void *scan_on(void *context) {
     pdt_txn *txn;
     size_t count = ROWS;
     if (fails("begin", pdt_begin(store, &txn))) return NULL;
-    long long began = now();
+    int64_t began = now();
     bool bad = fails("ints", pdt_ints(txn, 1, 0, numbers, &count)) || count != ROWS;
-    long long took = now() - began;
+    int64_t took = now() - began;
     pdt_abort(txn);
     if (bad) failed = true;
     if (took < quickest) quickest = took;
@@ -98,7 +115,9 @@ static bool watch(const char *folder) {
     while (commits < WRITERS * due / TENTHS * tenth && !failed) nanosleep(&(struct timespec){0, 2000000}, NULL);
     long kilobytes = resident();
     long long found = bytes_of(folder), scan = quickest;
-    printf("%ld commits: %ld KB, %lld bytes, a scan %lld us\n", (long)commits, kilobytes, found, scan / 1000);
+    printf("%ld commits: %ld KB, %lld bytes, a scan %lld us", (long)commits, kilobytes, found, scan / 1000);
+    print_times();
+    puts("");
     fflush(stdout);
     if (tenth == 3) third = kilobytes;
     if (failed || kilobytes < 0) return false;
