@@ -65,7 +65,7 @@ impl Bits {
     }
 
     /// Puts truths from one of them on into a room of bytes, as many as it holds: 1 for true, and 0 for false.
-    fn put_bytes(&self, first: usize, out: &mut [u8])
+    pub fn put_bytes(&self, first: usize, out: &mut [u8])
         requires { first + length out.old ≤ length self.now }
         ensures { out.new ≡ map (λ truth. cond truth 1 0) (take (length out.old) (drop first self.now)) }
     {

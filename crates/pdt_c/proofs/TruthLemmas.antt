@@ -1,9 +1,9 @@
 -- Truths that are put into C's room by their numbers, part by part.
-use Rattle.std.proofs.Common.{◌≡◌, ◌∙◌, Bool, true, false, ℕ, ◌+◌, ◌<◌, List, [], ◌∷◌, ◌++◌, length, take, drop, get_or, refl, sym, ap, arith}
-use Rattle.std.specs.Prelude.{ℤ, IsTrue, Option, Some, None, slice_get}
+use Rattle.std.proofs.Common.{◌≡◌, ◌∙◌, Bool, true, false, ℕ, ◌+◌, ◌<◌, ◌≤◌, List, [], ◌∷◌, ◌++◌, length, map, take, drop, get_or, refl, sym, ap, arith}
+use Rattle.std.specs.Prelude.{ℤ, cond, IsTrue, Option, Some, None, slice_get}
 use Rattle.std.specs.List.{drop-map}
 use Rattle.std.proofs.Math.Seq.{take-add}
-use Rattle.std.proofs.lemmas.List.{drop-drop, get_or-map, length-map, take_more}
+use Rattle.std.proofs.lemmas.List.{drop-drop, get_or-map, length-append, length-drop, length-map, length-take, take-take, take_at, take_more}
 use Rattle.std.proofs.lemmas.Option.{get_or_from_slice_get, slice_get_within}
 use Rattle.values.specs.Shape.{has_type}
 use Rattle.values.specs.declared.row.Row.{Row}
@@ -13,7 +13,10 @@ use Rattle.values.specs.declared.value.Value.{Value}
 use Rattle.values.specs.declared.value.Value.TheVariants.{Int, Text, Bool as Truth}
 use Rattle.stable.specs.Rows.{column_values}
 use Rattle.merge.specs.Packed.{AreNumbersOf, number_of}
-use Rattle.pdt_c.specs.Truths.{byte_of, is_truth, truths_of}
+use Rattle.merge.specs.Runs.{run_values}
+use Rattle.merge.specs.declared.run.TruthRun.{TruthRun}
+use Rattle.merge.specs.declared.run.Run.TheVariants.{Truths}
+use Rattle.pdt_c.specs.Truths.{LieTogether, byte_of, is_truth, truths_of}
 
 -- a column of truths is there
 pub truths_there : (types : List ColumnType) (col : ℕ) → is_truth (slice_get types col) ≡ true
@@ -62,3 +65,29 @@ truths_more col from done more rows =
     (drop-map byte_of done (column_values col (drop from rows))
     ∙ ap truths_of (drop-map (λ (row : Row). get_or row col (Truth false)) done (drop from rows))
     ∙ ap (λ (rs : List Row). truths_of (column_values col rs)) (drop-drop done from rows))
+
+-- the bytes of truths
+pub bytes_of_truths : (truths : List Bool) → truths_of (map Truth truths) ≡ map (λ truth. cond truth 1 0) truths
+bytes_of_truths [] = refl
+bytes_of_truths (true ∷ truths) = ap (λ (bs : List ℕ). 1 ∷ bs) (bytes_of_truths truths)
+bytes_of_truths (false ∷ truths) = ap (λ (bs : List ℕ). 0 ∷ bs) (bytes_of_truths truths)
+
+-- the first run of the cells up to a place
+pub lie_together : (run : TruthRun) (most : ℕ) (cells rest : List Value) → take most cells ≡ run_values (Truths run) ++ rest
+    → 0 < length (run_values (Truths run)) → run.first + run.count ≤ length run.truths.now → LieTogether run most cells
+lie_together run most cells rest is some within =
+    let own = run_values (Truths run) in
+    let bits = drop run.first run.truths.now in
+    let counted : length own ≡ run.count =
+    omega (arith, within, length-map (take run.count bits) Truth, length-take run.count bits, length-drop run.first run.truths.now) in
+    let all = ap (λ (vs : List Value). length vs) is in
+    let few : run.count ≤ most = omega (arith, all, counted, length-append own rest, length-take most cells) in
+    record {
+      some = omega (arith, some, counted);
+      few = few;
+      within = within;
+      same =
+          sym (take-take run.count most cells few)
+          ∙ ap (take run.count) is
+          ∙ take_at own rest run.count counted;
+    }

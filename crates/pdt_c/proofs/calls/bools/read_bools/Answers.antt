@@ -1,7 +1,9 @@
 use Rattle.std.proofs.Common.{◌≡◌, ◌∙◌, ℕ, ◌+◌, ◌-◌, ◌≤◌, ◌++◌, Bool, true, [], List, length, take, drop, get_or, ap, sym, arith}
 use Rattle.std.specs.Prelude.{cond, false}
-use Rattle.std.proofs.lemmas.List.{length-drop, length-map, length-take}
+use Rattle.std.proofs.Math.Seq.{take-add}
+use Rattle.std.proofs.lemmas.List.{drop_at, length-drop, length-map, length-take, take-take, take_at}
 use Rattle.std.proofs.lemmas.Slice.{take-put_mid}
+use borrow.Rule.Slice.PartMut.{put_mid}
 use Rattle.values.specs.declared.row.Row.{Row}
 use Rattle.values.specs.declared.value.Value.TheVariants.{Bool as Truth}
 use Rattle.model.specs.Table.{rows_of}
@@ -19,26 +21,36 @@ loop-done-preserved c =
     let col = c.args.col in
     let from = c.args.from in
     let done = c.loop-done.done in
-    let more = c.min-more.result in
+    let more = c.fill_some-done.result in
+    let count = c.min-count.result in
     let out = c.loop-done.out in
-    let part = c.fill_bytes.new.out in
-    let room = (done + more) - done in
-    let within : done + more ≤ c.min-count.result = omega (arith, c.min-more.ensures, c.loop-done-test.true) in
-    let many : length (take room (drop done out)) ≡ more = omega (
+    let part = c.fill_some-done.new.out in
+    let room = count - done in
+    let before = take done out in
+    let front : length before ≡ done =
+    omega (arith, length-take done out, c.loop-done-test.true, c.min-count.ensures, c.loop-done.auto.out) in
+    let many : length part ≡ room = omega (
       arith,
-      within,
+      c.fill_some-done.ensures.length,
+      c.loop-done-test.true,
       c.min-count.ensures,
       c.loop-done.auto.out,
       length-take room (drop done out),
       length-drop done out,
     ) in
+    let within : done + more ≤ count = omega (arith, c.fill_some-done.ensures.few, c.fill_some-done.ensures.length, many, c.loop-done-test.true) in
+    let filled = put_mid done room out part in
+    let whole : take count filled ≡ before ++ part =
+    take-put_mid done room out part count (omega (arith, many, c.loop-done-test.true))
+    (omega (arith, c.loop-done-test.true, c.min-count.ensures, c.loop-done.auto.out)) in
     let so_far : List ℕ = take done (truths_of (column_from txn col from)) in (
       within,
-      take-put_mid done room out part (done + more) (omega (arith, many, c.fill_bytes.ensures.length))
-          (omega (arith, within, c.min-count.ensures, c.loop-done.auto.out))
-          ∙ ap (λ (bs : List ℕ). bs ++ part) c.loop-done.invariant.1
-          ∙ ap (λ (bs : List ℕ). so_far ++ bs)
-          (c.fill_bytes.ensures.truths ∙ ap (λ n. take n (truths_of (column_from txn col (from + done)))) many)
+      sym (take-take (done + more) count filled within)
+          ∙ ap (take (done + more)) whole
+          ∙ take-add done more (before ++ part)
+          ∙ ap (λ (bs : List ℕ). bs ++ take more (drop done (before ++ part))) (take_at before part done front ∙ c.loop-done.invariant.1)
+          ∙ ap (λ (bs : List ℕ). so_far ++ take more bs) (drop_at before part done front)
+          ∙ ap (λ (bs : List ℕ). so_far ++ bs) c.fill_some-done.ensures.truths
           ∙ sym (truths_more col from done more (rows_of (image_of txn))),
     )
 
