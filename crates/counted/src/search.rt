@@ -89,18 +89,18 @@ impl Target {
         }
     }
 
-    /// Which of those from one up to another is looked at next, of so many: by a SID the one in the middle, and the last one of all
-    /// before that, since keys that ascend go behind it. By a position it is the first, since what those before it add is added up
-    /// from the left.
+    /// Which of those from one up to another is looked at next: by a SID the last one where that is the tree's, since keys that ascend
+    /// go behind it, and else the one in the middle. By a position it is the first, since what those before it add is added up from
+    /// the left.
     #[inline(always)]
-    fn next_of(self, low: usize, high: usize, count: usize) -> usize
+    fn next_of(self, low: usize, high: usize, is_end: bool) -> usize
         requires { low < high }
         ensures low { low ≤ result }
         ensures high { result < high }
         ensures up { (up : ℤ) (sum : ℕ → ℤ) → IsUp self up (sum low) → IsUp self up (sum result) }
     {
         match self {
-            Target::Sid(_) if high == count => high - 1,
+            Target::Sid(_) if is_end => high - 1,
             Target::Sid(_) => low + (high - low) / 2,
             Target::Rid(_) => low,
         }
@@ -154,14 +154,16 @@ impl Node {
         ensures steps { ((weight : ℤ) → IsSome (P.by_weight probe.now weight)) → steps.new ≡ steps.old + self.now.depth }
     {
         let (mut node, mut above) = (self, Above::root());
+        let mut is_last = true;
         loop {
             match node.read(steps) {
                 Body::Leaf(entries) => {
-                    let at = place_in(entries, target, above.shift, probe);
+                    let at = place_in(entries, target, above.shift, is_last, probe);
                     return above.spot(entries, at);
                 }
                 Body::Inner(children) => {
-                    let at = child_before(children, target, above.shift, probe, steps);
+                    let at = child_before(children, target, above.shift, is_last, probe, steps);
+                    is_last = is_last && at + 1 == children.len();
                     above = above.child(children, at);
                     node = &children[at].node;
                 }
@@ -171,12 +173,13 @@ impl Node {
 }
 
 /// The last child found whose first entry is before what is looked for, or else the first, where the first child's entries
-/// are `shift` above the rows below.
+/// are `shift` above the rows below. The last child is looked at first where no entry of the tree is behind it.
 #[inline(always)]
 fn child_before<P: Probe, L: Ledger>(
     children: &[Child],
     target: Target,
     shift: i64,
+    is_last: bool,
     probe: &P,
     steps: &mut Steps<L>,
 ) -> usize
@@ -190,7 +193,7 @@ fn child_before<P: Probe, L: Ledger>(
     let mut high = children.len();
     let mut up = target.up_past_child(shift, children, low);
     while low + 1 < high {
-        let next = target.next_of(low + 1, high, children.len());
+        let next = target.next_of(low + 1, high, is_last && high == children.len());
         if begins_before(&children[next], target, up, probe, steps) {
             low = next;
             up = target.up_past_child(up, children, low);
@@ -251,9 +254,16 @@ impl SharedEntry {
     }
 }
 
-/// How many entries of a leaf, which are `shift` above the rows below, are before what is looked for.
+/// How many entries of a leaf, which are `shift` above the rows below, are before what is looked for. The last one is looked at
+/// first where no entry of the tree is behind it.
 #[inline(always)]
-fn place_in<P: Probe>(entries: &[SharedEntry], target: Target, shift: i64, probe: &P) -> usize
+fn place_in<P: Probe>(
+    entries: &[SharedEntry],
+    target: Target,
+    shift: i64,
+    is_last: bool,
+    probe: &P,
+) -> usize
     requires met { MayMeet target entries.now }
     requires near { IsNear shift (length entries.now) }
     ensures { IsPlace (is_before (P.stand probe.now) target) shift entries.now result }
@@ -262,7 +272,7 @@ fn place_in<P: Probe>(entries: &[SharedEntry], target: Target, shift: i64, probe
     let mut high = entries.len();
     let mut up = shift;
     while low < high {
-        let next = target.next_of(low, high, entries.len());
+        let next = target.next_of(low, high, is_last && high == entries.len());
         if entries[next].is_before(target, up, probe) {
             low = next + 1;
             up = target.up_past_entry(up, entries, next);
