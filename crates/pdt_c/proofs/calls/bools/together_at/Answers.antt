@@ -1,4 +1,4 @@
-use Rattle.std.proofs.Common.{◌≡◌, ◌∙◌, List, Some, length, take, drop, get_or, sym, ap, subst, arith}
+use Rattle.std.proofs.Common.{◌∙◌, List, Some, drop, get_or, sym, ap, subst, arith}
 use Rattle.std.specs.Prelude.{false}
 use Rattle.std.proofs.lemmas.List.{length-map, take-map}
 use Rattle.values.specs.declared.row.Row.{Row}
