@@ -1,5 +1,6 @@
 //! Texts that are spelled out: in one buffer, with the offset at which each ends.
-ghost use Rattle.std.specs.Prelude.{◌≡◌, ◌<◌, ◌≤◌, ◌+◌, ◌-◌, ◌*◌, ◌^◌, ◌++◌, ◌∷◌, [], List, ℕ, length, map, replicate, take, drop, Some, slice_get, slice_index_or, IfOk, OnOk, OnErr, string_bytes, vec_len, vec_capacity};
+ghost use Rattle.std.specs.Prelude.{◌≡◌, ◌<◌, ◌≤◌, ◌+◌, ◌-◌, ◌*◌, ◌^◌, ◌++◌, ◌∷◌, []};
+ghost use Rattle.std.specs.Prelude.{List, ℕ, length, map, replicate, take, drop, Some, slice_get, slice_index_or, IfOk, OnOk, OnErr, string_bytes, vec_len, vec_capacity};
 ghost use Rattle.std.specs.List.{All, AllByRecursion};
 ghost use Rattle.blocks.specs.Cuts.{IsText};
 ghost use Rattle.values.specs.declared.limits.TheConstants.{MAX_TEXT_BYTES, MAX_BLOCK_VALUES};

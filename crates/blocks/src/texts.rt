@@ -1,6 +1,7 @@
 //! The texts of a block. Where all are equal one is spelled out, and the others are only counted: what is stored once for 1,024 rows is
 //! kept once too.
-ghost use Rattle.std.specs.Prelude.{◌≡◌, ◌<◌, ◌≤◌, ◌+◌, ◌*◌, ◌++◌, ◌∷◌, [], true, length, replicate, take, drop, Some, slice_get, IfOk, OnOk, OnErr};
+ghost use Rattle.std.specs.Prelude.{◌≡◌, ◌<◌, ◌≤◌, ◌+◌, ◌*◌, ◌++◌, ◌∷◌, []};
+ghost use Rattle.std.specs.Prelude.{true, length, replicate, take, drop, Some, slice_get, IfOk, OnOk, OnErr};
 ghost use Rattle.std.specs.List.{AllByRecursion};
 ghost use Rattle.values.specs.declared.limits.TheConstants.{MAX_TEXT_BYTES, MAX_BLOCK_VALUES};
 ghost use Rattle.blocks.specs.Cuts.{IsText};
@@ -110,8 +111,8 @@ impl Texts {
         given.push(text)
     }
 
-    /// Puts so many texts of others, from one of them on, after these: one copy of their bytes, and an end for each. With
-    /// `NoMemory` the texts are as they were.
+    /// Puts so many texts of others, from one of them on, after these: one copy of their bytes, and an end for each. Copies of a text
+    /// are only counted, where there is none but that text then. With `NoMemory` the texts are as they were.
     ///
     /// # Errors
     ///

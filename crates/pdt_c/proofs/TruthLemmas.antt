@@ -1,9 +1,11 @@
 -- Truths that are put into C's room by their numbers, part by part.
-use Rattle.std.proofs.Common.{◌≡◌, ◌∙◌, Bool, true, false, ℕ, ◌+◌, ◌<◌, ◌≤◌, List, [], ◌∷◌, ◌++◌, length, map, take, drop, get_or, refl, sym, ap, arith}
+use Rattle.std.proofs.Common.{◌≡◌, ◌∙◌, Bool, true, false, ℕ, ◌+◌, ◌<◌, ◌≤◌, List, [], ◌∷◌, ◌++◌, length, map, take, drop, get_or}
+use Rattle.std.proofs.Common.{refl, sym, ap, arith}
 use Rattle.std.specs.Prelude.{ℤ, cond, IsTrue, Option, Some, None, slice_get}
 use Rattle.std.specs.List.{drop-map}
 use Rattle.std.proofs.Math.Seq.{take-add}
-use Rattle.std.proofs.lemmas.List.{drop-drop, get_or-map, length-append, length-drop, length-map, length-take, take-take, take_at, take_more}
+use Rattle.std.proofs.lemmas.List.{drop-drop, get_or-map, length-append, length-drop, length-map, length-take}
+use Rattle.std.proofs.lemmas.List.{take-take, take_at, take_more}
 use Rattle.std.proofs.lemmas.Option.{get_or_from_slice_get, slice_get_within}
 use Rattle.values.specs.Shape.{has_type}
 use Rattle.values.specs.declared.row.Row.{Row}

@@ -1,4 +1,5 @@
-use Rattle.std.proofs.Common.{◌≡◌, ◌<◌, ◌≤◌, ◌+◌, ◌-◌, ◌∷◌, ◌++◌, length, map, take, drop, get_or, slice_range, sym, ap, subst, ◌∙◌, arith, rules, IsCharBoundary}
+use Rattle.std.proofs.Common.{◌≡◌, ◌<◌, ◌≤◌, ◌+◌, ◌-◌, ◌∷◌, ◌++◌, length, map, take, drop, get_or, slice_range}
+use Rattle.std.proofs.Common.{sym, ap, subst, ◌∙◌, arith, rules, IsCharBoundary}
 use Rattle.std.specs.Prelude.{string_bytes}
 use Rattle.std.specs.List.{All}
 use Rattle.values.specs.declared.limits.TheConstants.{MAX_BLOCK_VALUES}
