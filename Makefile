@@ -1,22 +1,24 @@
-# Each target is one line; the work is done by the toolchain's command rt.
-.PHONY: try run test examples fmt check door install uninstall bench
+# Each target is one line; the work is done by the toolchain's command rt, and by tools/.
+.PHONY: try run test mutants examples fmt check door install uninstall bench
 
-# how many checks the gate does at a time: one for each processor and each 6 GB of memory, which one takes at most; two at least
-RT_JOBS ?= $(shell awk -v cores=$$(nproc) '/^MemTotal/ { jobs = int($$2 / 5.8e6); if (jobs > cores) jobs = cores; print jobs < 2 ? 2 : jobs }' /proc/meminfo)
-
-# runs the program on its example, unproved: a look, in two to three minutes
+# compiles the program from source and runs it on its example, unproved: a look
 try:
+	@echo "compiling the program from source, unproved: two to four minutes of silence, then its output"
 	cd crates/pdt && rt try -- run data/table.csv data/script.csv
 
 # proves and builds the program, and runs its example
 run:
 	cd crates/pdt && rt run -- run data/table.csv data/script.csv
 
-# the gate: every proof from nothing, the must-fail edits, the tests and the program; then the names in the documents, what
-# nothing cites, the examples and the cases through that program, runs of it that are killed, and the tests of the door for C.
-# RT_JOBS checks go on at a time, each on one processor, since a check that has several takes more processor time
+# the gate: formatting, the names in the documents and other quick checks; every proof from nothing and the must-fail edits; the mutants of
+# the crates that have changed; then what runs: the program's examples and kills, and the tests of the bindings. RT_JOBS checks go on at a
+# time, each on one processor: else one for each processor, as far as memory holds
 test:
-	RT_JOBS=$(RT_JOBS) rt ci && docs/check && docs/dead && examples/check && examples/kills && door/check
+	tools/gate
+
+# tries every mutant, and writes mutants.verified; make mutants ONLY=changed tries those of the crates that differ from it
+mutants:
+	tools/mutants $(ONLY)
 
 # each example and case through the program as `make run` proves and builds it, against its replies
 examples: run
@@ -29,9 +31,9 @@ fmt:
 check:
 	cd crates/$(CRATE) && rt check
 
-# the door for C: proves crates/pdt_c, and builds a static and a shared library from it in door/c/out
+# the C interface: proves crates/pdt_c, and builds a static and a shared library from it in door/c/out
 door:
-	cd crates/pdt_c && rt lib && $(MAKE) -C ../../door/c
+	tools/library && $(MAKE) -C door/c
 
 # installs the header, both libraries, what pkg-config and CMake read, and the extension of SQLite where it is built:
 # make install PREFIX=/usr/local LIBDIR=/usr/local/lib INCLUDEDIR=/usr/local/include DESTDIR=
