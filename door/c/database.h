@@ -126,7 +126,7 @@ void pdti_name_journal(char *name, uint64_t seq);
 /* Makes the next file of the journal, in which the next frame is written. */
 int pdti_turn_over(pdt_database *database);
 
-/* The first file of the journal that an image wants, where the oldest one has the commits up to a number. */
+/* The first file of the journal that an image wants, where the oldest one has the commits up to a number: 0 where that file is gone. */
 uint64_t pdti_first_wanted(pdt_database *database, uint64_t oldest);
 /* Takes away the files before it. */
 void pdti_remove_journals(pdt_database *database, uint64_t first);
@@ -149,8 +149,10 @@ void pdti_remove_image(pdt_database *database, uint64_t table, uint64_t folder);
 /* ---- manifest.c */
 
 /* Writes the manifest anew, with the tables and one more, if it is not null, after a commit that is safe. What it named before is named
-   no longer once it answers PDT_OK; where it answers otherwise either may be. With files_lock held. */
-int pdti_write_manifest(pdt_database *database, uint64_t number, const pdti_table *added);
+   no longer once it answers PDT_OK. Where it answers otherwise *in_doubt, if not null, says whether either may be: it came to the rename
+   then. Else the one before stays. PDT_GAP, and nothing is written, where an image is from before the first file of the journal: no
+   opening would take it. With files_lock held. */
+int pdti_write_manifest(pdt_database *database, uint64_t number, const pdti_table *added, bool *in_doubt);
 
 /* Reads the manifest: the names, the number that it is of, the first file of the journal that it wants, and the tables, which have no
    store yet. PDT_MISSING where there is none. */
@@ -166,8 +168,9 @@ int pdti_sync(int file);      /* the data, and how long it is */
 int pdti_sync_in(int dir);    /* the names */
 int pdti_read_in(int dir, const char *name, buffer *into);
 int pdti_close_synced(int file, int code);
+void pdti_remove_in(int dir, const char *name); /* and leaves errno as it is */
 
-/* Calls with each name in a folder that begins so and goes on with a number, or two that a dash parts. */
+/* Calls with each name in a folder that begins so and goes on with a number, or two that a dash parts. PDT_IO, PDT_NOMEM: not with all. */
 typedef void (*pdti_each)(void *context, const char *name, uint64_t first, uint64_t second);
 int pdti_names(int dir, const char *front, pdti_each each, void *context);
 
@@ -181,7 +184,7 @@ void pdti_stop_upkeep(pdt_database *database);
 /* Makes the folder where it isn't there. */
 int pdti_make_folder(const char *folder);
 
-/* Locks it for this opening. */
+/* Locks it for this opening, and the file `lock` in it. PDT_LOCKED, PDT_IO. */
 int pdti_lock_folder(pdt_database *database);
 
 /* Begins the journal of a new database, under its name: a salt that is drawn, and a file with no bytes. */

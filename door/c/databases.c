@@ -74,6 +74,13 @@ static void free_page(pdt_database *database) {
   if (database->is_ours) munmap((void *)(uintptr_t)database->is_ours, (size_t)sysconf(_SC_PAGESIZE));
 }
 
+/* Closes a file that is locked. A child of fork has it too, and would keep the lock for as long as it lives. */
+static void unlock(int file) {
+  if (file < 0) return;
+  flock(file, LOCK_UN);
+  close(file);
+}
+
 /* Lets go of a database that nobody uses, and whose locks are made or not. */
 static void free_database(pdt_database *database) {
   for (size_t i = 0; i < database->count; i++) pdti_free_entry(database->tables[i]);
@@ -83,11 +90,8 @@ static void free_database(pdt_database *database) {
   free(database->writing.at);
   if (database->file >= 0) close(database->file);
   if (database->next_file >= 0) close(database->next_file);
-  if (database->lock_file >= 0) {
-    flock(database->lock_file, LOCK_UN); /* a child of fork has the file too, and would keep the lock for as long as it lives */
-    close(database->lock_file);
-  }
-  if (database->dir >= 0) close(database->dir);
+  unlock(database->dir);
+  unlock(database->lock_file);
   free_page(database);
   free(database);
 }

@@ -55,6 +55,7 @@ static int rewrite_types(pdt_database *database, const pdti_table *entry) {
   int file = pdti_open_in(database->dir, "types-new", O_WRONLY | O_CREAT | O_TRUNC);
   int code = file < 0 ? PDT_IO : pdti_close_synced(file, pdti_write_to(file, text, len));
   if (!code && renameat(database->dir, "types-new", database->dir, name)) code = PDT_IO;
+  if (code) pdti_remove_in(database->dir, "types-new");
   return code ? code : pdti_sync_in(database->dir);
 }
 
@@ -96,10 +97,8 @@ int pdti_read_types(pdt_database *database, pdti_table *entry, char *file) {
 
 void pdti_remove_types(pdt_database *database, uint32_t table) {
   char name[NAME];
-  int why = errno;
   name_types(name, table);
-  unlinkat(database->dir, name, 0);
-  errno = why;
+  pdti_remove_in(database->dir, name);
 }
 
 /* ---- the calls */

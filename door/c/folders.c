@@ -66,6 +66,12 @@ int pdti_close_synced(int file, int code) {
   return code;
 }
 
+void pdti_remove_in(int dir, const char *name) {
+  int why = errno;
+  unlinkat(dir, name, 0);
+  errno = why;
+}
+
 /* The bytes come after those that are there. */
 int pdti_read_in(int dir, const char *name, buffer *into) {
   int file = pdti_open_in(dir, name, O_RDONLY);
@@ -97,22 +103,32 @@ static bool take_number(const char **at, uint64_t *number) {
   return *at > from && (*from != '0' || *at == from + 1);
 }
 
+/* The next name, or null at the end and where reading fails: only errno tells which. */
+static struct dirent *next_name(DIR *names) {
+  errno = 0;
+  return readdir(names);
+}
+
 int pdti_names(int dir, const char *front, pdti_each each, void *context) {
   int copy = pdti_open_in(dir, ".", O_RDONLY | O_DIRECTORY);
   if (copy < 0) return PDT_IO;
   DIR *names = fdopendir(copy);
   if (!names) {
+    int why = errno;
     close(copy);
-    return PDT_NOMEM;
+    errno = why;
+    return why == ENOMEM ? PDT_NOMEM : PDT_IO;
   }
   size_t len = strlen(front);
-  for (struct dirent *name; (name = readdir(names));) {
+  for (struct dirent *name; (name = next_name(names));) {
     const char *at = name->d_name + len;
     uint64_t first = 0, second = 0;
     if (strncmp(name->d_name, front, len) || !take_number(&at, &first)) continue;
     if (*at == '-' && (at++, !take_number(&at, &second))) continue;
     if (!*at) each(context, name->d_name, first, second);
   }
+  int why = errno;
   closedir(names);
-  return PDT_OK;
+  errno = why;
+  return why ? PDT_IO : PDT_OK;
 }

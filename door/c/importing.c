@@ -155,7 +155,7 @@ static int make_database(pdt_database *database, pdti_table *entry, uint64_t nam
   database->next_folder = 1;
   if (!code) code = pdti_begin_journal(database);
   if (!code) code = pdti_write_first(database, entry);
-  return code ? code : pdti_write_manifest(database, number, entry);
+  return code ? code : pdti_write_manifest(database, number, entry, NULL);
 }
 
 int pdti_import(pdt_database *database, pdt_report *report) {

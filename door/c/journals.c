@@ -119,16 +119,21 @@ static void end_sync(pdt_database *database) {
   pthread_cond_broadcast(&database->turn_ends);
 }
 
-/* Goes on in the next file, once the device has all of this one: no file is behind one that may be torn. */
+/* Goes on in the next file, once the device has all of this one: no file is behind one that may be torn. Where another thread's sync has
+   failed meanwhile it isn't asked again: the system would answer that there is nothing left to write. */
 static int go_on(pdt_database *database) {
   pthread_mutex_lock(&database->turn_lock);
   take_sync(database);
-  bool is_safe = database->safe >= database->written;
+  bool is_safe = database->safe >= database->written, has_failed = database->has_failed;
   pthread_mutex_unlock(&database->turn_lock);
-  int code = is_safe ? PDT_OK : pdti_sync(database->file);
+  int code = has_failed ? PDT_IO : is_safe ? PDT_OK : pdti_sync(database->file);
   if (!code) close(database->file);
   pthread_mutex_lock(&database->turn_lock); /* at once: before, the next one is there, so that none is made, and it has this number */
   if (!code) {
+    if (!is_safe) {
+      database->safe = database->written; /* whoever has the turn writes meanwhile, and that is this thread */
+      database->syncs++;
+    }
     database->file = database->next_file;
     database->next_file = -1;
     database->files[database->file_count++] = (journal_file){.seq = database->next_seq - 1};
@@ -155,9 +160,13 @@ static int write_frames(pdt_database *database) {
   memcpy(&first, frames->at, sizeof first);
   pthread_mutex_lock(&database->turn_lock);
   bool has_next = database->next_file >= 0, is_new = has_next || !last_file(database)->bytes;
-  uint64_t safe = database->safe;
   pthread_mutex_unlock(&database->turn_lock);
   if (has_next && go_on(database)) return PDT_IO;
+  pthread_mutex_lock(&database->turn_lock);
+  uint64_t safe = database->safe;
+  bool has_failed = database->has_failed; /* since this thread took the turn: nothing is written behind it */
+  pthread_mutex_unlock(&database->turn_lock);
+  if (has_failed) return PDT_IO;
   if (is_new && write_header(database, first.number - 1)) return PDT_IO;
   make_heads(database, safe);
   if (pdti_write_to(database->file, frames->at, frames->len)) return PDT_IO;
@@ -359,11 +368,15 @@ int pdti_turn_over(pdt_database *database) {
   return PDT_OK;
 }
 
+/* Whether an image that has the commits up to a number needs none before a file. */
+static bool begins_by(const journal_file *file, uint64_t oldest) { return file->bytes && file->base <= oldest; }
+
 uint64_t pdti_first_wanted(pdt_database *database, uint64_t oldest) {
   pthread_mutex_lock(&database->turn_lock);
   size_t at = 0;
-  while (at + 1 < database->file_count && database->files[at + 1].bytes && database->files[at + 1].base <= oldest) at++;
-  uint64_t seq = database->files[at].seq;
+  while (at + 1 < database->file_count && begins_by(&database->files[at + 1], oldest)) at++;
+  const journal_file *first = &database->files[at];
+  uint64_t seq = !first->bytes || begins_by(first, oldest) ? first->seq : 0;
   pthread_mutex_unlock(&database->turn_lock);
   return seq;
 }

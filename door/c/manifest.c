@@ -53,6 +53,7 @@ static uint64_t oldest_image(const pdt_database *database, uint64_t number, cons
 
 static int put_manifest(pdt_database *database, uint64_t number, const pdti_table *added, buffer *text) {
   uint64_t first = pdti_first_wanted(database, oldest_image(database, number, added));
+  if (!first) return PDT_GAP;
   int code = put_line(text, "narthexmace 1\ndatabase %016" PRIx64 " %016" PRIx64 "\n", database->name, database->salt);
   if (!code) code = put_line(text, "at %" PRIu64 " %" PRIu64 "\n", number, first);
   if (!code) code = put_line(text, "next %" PRIu32 " %" PRIu64 "\n", database->next_table, database->next_folder);
@@ -61,15 +62,18 @@ static int put_manifest(pdt_database *database, uint64_t number, const pdti_tabl
   return code ? code : put_line(text, "end %08" PRIx32 "\n", check_of(text->at, text->len));
 }
 
-int pdti_write_manifest(pdt_database *database, uint64_t number, const pdti_table *added) {
+int pdti_write_manifest(pdt_database *database, uint64_t number, const pdti_table *added, bool *in_doubt) {
   buffer text = {NULL, 0, 0};
   int code = put_manifest(database, number, added, &text);
   if (!code) {
     int file = pdti_open_in(database->dir, "manifest-new", O_WRONLY | O_CREAT | O_TRUNC);
     code = file < 0 ? PDT_IO : pdti_close_synced(file, pdti_write_to(file, text.at, text.len));
   }
+  bool is_written = !code;
   if (!code && renameat(database->dir, "manifest-new", database->dir, "manifest")) code = PDT_IO;
+  if (code) pdti_remove_in(database->dir, "manifest-new"); /* on a full disk it would keep the room that others want */
   if (!code) code = pdti_sync_in(database->dir);
+  if (in_doubt) *in_doubt = code && is_written;
   int why = errno;
   free(text.at);
   errno = why;

@@ -69,7 +69,7 @@ typedef enum pdt_code {
   PDT_SUPERSEDED = 17,    /* since the checkpoint began something else has folded or checkpointed */
   PDT_NOT_ASCENDING = 18, /* a row's key isn't above that of the row before it */
   PDT_DEVICE_FAILED = 19, /* the caller's write didn't take the bytes, or the caller's stream failed */
-  PDT_LOCKED = 20,        /* another process, or this one, has the database open */
+  PDT_LOCKED = 20,        /* another process, or this one, has the database open, or its folder locked by flock */
   PDT_ROT = 21,           /* what was safe is damaged: pdt_report says which file, or which commit */
   PDT_GAP = 22,           /* a commit, or a file of the database, is missing: pdt_report says which */
   PDT_MISFIT = 23,        /* the journal isn't of these tables: pdt_report says at which commit */
@@ -565,9 +565,9 @@ pdt_code pdt_database_close(pdt_database *database);
    an empty one. It is on the device when this returns, with its options, which it keeps. It lasts until it is dropped, and the
    store until the database is closed.
    A name has 1 to 64 bytes of UTF-8, none of them below 32 or 127: else PDT_SHAPE. PDT_EXISTS where there is a table of the name,
-   PDT_IO, PDT_FAILED, PDT_NOMEM, PDT_MISUSE, and those of the openings: *store is null then, and there is no such table. (Where the
-   device fails twice over its making, a later opening may find it, as it was made.) PDT_MISUSE for a column with PDT_OUTSIDE: the
-   database makes images by itself, whose rows the caller's own values wouldn't follow. */
+   PDT_IO, PDT_FAILED, PDT_NOMEM, PDT_MISUSE, PDT_GAP as for pdt_upkeep, and those of the openings: *store is null then, and there is no
+   such table. (Where the device fails twice over its making, a later opening may find it, as it was made.) PDT_MISUSE for a column with
+   PDT_OUTSIDE: the database makes images by itself, whose rows the caller's own values wouldn't follow. */
 pdt_code pdt_table_create(pdt_database *database, const char *name, const pdt_column *columns, size_t count, size_t key,
                           const pdt_options *options, pdt_place *place, pdt_store **store);
 pdt_code pdt_table_create_csv(pdt_database *database, const char *name, const void *csv, size_t bytes, const pdt_options *options,
@@ -581,7 +581,8 @@ pdt_code pdt_table_open(pdt_database *database, const char *name, pdt_store **st
 pdt_code pdt_table_name(pdt_database *database, size_t index, char *name, size_t room);
 
 /* Drops the table of a name, and its store with it. PDT_MISSING where there is none. PDT_MISUSE while a transaction or a work is
-   open over it, a pin is kept, a checkpoint begun or a thread in pdt_wait. PDT_IO, PDT_FAILED, PDT_NOMEM: it stays. */
+   open over it, a pin is kept, a checkpoint begun or a thread in pdt_wait. PDT_IO, PDT_FAILED, PDT_NOMEM, PDT_GAP as for pdt_upkeep: it
+   stays, and commits go on. (Where the device fails twice over it, once the folder may be without it, each later write is PDT_FAILED.) */
 pdt_code pdt_table_drop(pdt_database *database, const char *name);
 
 /* Begins a work: a transaction over all tables of a database, which it sees at one moment. PDT_NOMEM, PDT_MISUSE: *work is null
@@ -604,8 +605,9 @@ pdt_code pdt_work_commit(pdt_work *work, uint64_t *commits);
 void pdt_work_abort(pdt_work *work);
 
 /* Does what is due of folds, images and files that are no longer needed, where the database has no thread of its own that
-   does it; and waits for that one where it has. PDT_OK also where nothing was due. PDT_IO, PDT_FAILED, PDT_NOMEM: it is due again.
-   PDT_MISUSE. Commits wait for a fold of as many entries as pdt_database_options says. */
+   does it; and waits for that one where it has. PDT_OK also where nothing was due. PDT_IO, PDT_FAILED, PDT_NOMEM: it is due again;
+   so it is at PDT_GAP, where the next opening would miss a commit in what was to be written, and nothing was. PDT_MISUSE. Commits wait
+   for a fold of as many entries as pdt_database_options says. */
 pdt_code pdt_upkeep(pdt_database *database);
 
 /* What a database has counted since its opening, and what it keeps now. A later version may have more members. */

@@ -30,13 +30,24 @@ static int keep_folder(const pdt_database *database) {
   return code;
 }
 
+/* A call that a signal has cut off is made again. */
+static int lock(int file) {
+  int bad;
+  do bad = flock(file, LOCK_EX | LOCK_NB);
+  while (bad && errno == EINTR);
+  return !bad ? PDT_OK : errno == EWOULDBLOCK ? PDT_LOCKED : PDT_IO;
+}
+
+/* A file of the folder can be taken away by hand, and another be made in its place; the folder itself can't while it has the database.
+   Some file systems lock no folder, or none that is open for reading alone: there it is the file's lock alone. */
 int pdti_lock_folder(pdt_database *database) {
   database->lock_file = pdti_open_in(database->dir, "lock", O_RDWR | O_CREAT);
   if (database->lock_file < 0) return PDT_IO;
-  int bad;
-  do bad = flock(database->lock_file, LOCK_EX | LOCK_NB);
-  while (bad && errno == EINTR);
-  return !bad ? PDT_OK : errno == EWOULDBLOCK ? PDT_LOCKED : PDT_IO;
+  int code = lock(database->lock_file);
+  if (code) return code;
+  code = lock(database->dir);
+  bool locks_none = code == PDT_IO && (errno == EBADF || errno == EINVAL || errno == EOPNOTSUPP);
+  return locks_none ? PDT_OK : code;
 }
 
 /* ---- what is new */
@@ -95,7 +106,7 @@ static int make_new(pdt_database *database) {
   if (code) return code;
   if (found.count) return PDT_GAP;
   database->next_table = database->next_folder = 1;
-  return draw(&database->name) || pdti_begin_journal(database) ? PDT_IO : pdti_write_manifest(database, 0, NULL);
+  return draw(&database->name) || pdti_begin_journal(database) ? PDT_IO : pdti_write_manifest(database, 0, NULL, NULL);
 }
 
 /* ---- the journal */
@@ -228,6 +239,7 @@ static int write_anew(const journal_read *read, size_t at, size_t frames) {
   pdti_name_journal(name, file->seq);
   int code = copy_frames(read, at, frames, "journal-new");
   if (!code && renameat(database->dir, "journal-new", database->dir, name)) code = PDT_IO;
+  if (code) pdti_remove_in(database->dir, "journal-new"); /* it may be what has filled the disk */
   if (!code) code = pdti_sync_in(database->dir);
   if (!code) file->bytes = read->fronts[at] + frames;
   return code;
@@ -261,7 +273,7 @@ static int begin_anew(pdt_database *database, uint64_t number) {
   if (make_journal(database, seq)) return PDT_IO;
   database->files[0] = (journal_file){.seq = seq};
   database->file_count = 1;
-  return pdti_write_manifest(database, number, NULL);
+  return pdti_write_manifest(database, number, NULL, NULL);
 }
 
 static void remove_old_journal(void *context, const char *name, uint64_t seq, uint64_t second) {

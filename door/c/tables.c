@@ -75,10 +75,10 @@ int pdti_write_first(pdt_database *database, pdti_table *entry) {
   return code;
 }
 
-/* Writes the manifest without a table that couldn't be made, and that the one before may name. */
-static void without_table(pdt_database *database, uint64_t number, const pdti_table *entry) {
+/* Takes away the files of a table that couldn't be made. Where the manifest may name it, it is written without the table first. */
+static void without_table(pdt_database *database, uint64_t number, const pdti_table *entry, bool in_doubt) {
   int why = errno;
-  if (!pdti_write_manifest(database, number, NULL)) {
+  if (!in_doubt || !pdti_write_manifest(database, number, NULL, NULL)) {
     pdti_remove_image(database, entry->number, entry->image.folder);
     pdti_remove_types(database, entry->number);
   }
@@ -88,6 +88,7 @@ static void without_table(pdt_database *database, uint64_t number, const pdti_ta
 /* Makes a store a table of a database: its image first, then the manifest, and then it is there. With files_lock held. */
 static int add_table(pdt_database *database, pdti_table *entry) {
   uint64_t number = 0;
+  bool in_doubt = false;
   if (find(database, entry->name)) return PDT_EXISTS;
   if (database->next_table == UINT32_MAX) return PDT_FULL;
   int code = safe_number(database, &number);
@@ -103,11 +104,11 @@ static int add_table(pdt_database *database, pdti_table *entry) {
   lock_tables(database);
   code = pdti_reserve_entry(database);
   unlock_tables(database);
-  if (!code) {
-    code = pdti_write_manifest(database, number, entry);
-    if (code) without_table(database, number, entry);
+  if (!code) code = pdti_write_manifest(database, number, entry, &in_doubt);
+  if (code) {
+    without_table(database, number, entry, in_doubt);
+    return code;
   }
-  if (code) return code;
   lock_tables(database);
   pdti_attach(database, entry, number);
   database->tables[database->count++] = entry; /* after the last one, since its number is the greatest */
@@ -189,8 +190,8 @@ static void put_back(pdt_database *database, size_t at, pdti_table *entry) {
   unlock_tables(database);
 }
 
-/* Drops a table. Where that fails and the manifest may be without it, the manifest is written with it again, or no commit is taken any
-   more: it would be of a table that the next opening doesn't know. */
+/* Drops a table. Where that fails before the manifest may be without it, nothing has changed. Else the manifest is written with it again,
+   or no commit is taken any more: it would be of a table that the next opening doesn't know. */
 static int drop(pdt_database *database, const char *name) {
   size_t at = 0;
   while (at < database->count && strcmp(database->tables[at]->name, name)) at++;
@@ -205,11 +206,12 @@ static int drop(pdt_database *database, const char *name) {
     put_back(database, at, entry);
     return PDT_FAILED;
   }
-  code = pdti_write_manifest(database, number, NULL);
+  bool in_doubt;
+  code = pdti_write_manifest(database, number, NULL, &in_doubt);
   if (code) {
     int why = errno;
     put_back(database, at, entry);
-    if (pdti_write_manifest(database, number, NULL)) pdti_fail(database);
+    if (in_doubt && pdti_write_manifest(database, number, NULL, NULL)) pdti_fail(database);
     errno = why;
     return code;
   }

@@ -64,10 +64,15 @@ static int make_image(pdt_database *database, pdti_table *entry) {
   if (bytes.at) pdtr_image_close(&bytes);
   errno = why;
   if (!code) {
+    /* a table that no commit has changed begins with the number that renumber gave the image before: the files of the journal up to
+       that one may be gone. A commit that came since has a greater one. */
+    if (made.number < before.number) made.number = before.number;
     uint64_t number = made.number; /* it is safe: the bytes of a table are made of no other */
     entry->image = made;
-    code = pdti_write_manifest(database, number, NULL);
-    if (code) entry->image = before; /* either may be named: both stay */
+    bool in_doubt;
+    code = pdti_write_manifest(database, number, NULL, &in_doubt);
+    if (code) entry->image = before; /* where either may be named both stay */
+    if (code && !in_doubt) pdti_remove_image(database, entry->number, made.folder);
   }
   if (!code) {
     database->images++;
@@ -91,8 +96,9 @@ static int tidy(pdt_database *database, uint64_t safe) {
   for (size_t i = 0; i < database->count; i++)
     if (database->tables[i]->image.number < oldest) oldest = database->tables[i]->image.number;
   uint64_t first = pdti_first_wanted(database, oldest);
+  if (!first) return PDT_GAP;
   if (first == database->files[0].seq) return PDT_OK;
-  int code = pdti_write_manifest(database, safe, NULL);
+  int code = pdti_write_manifest(database, safe, NULL, NULL);
   if (!code) pdti_remove_journals(database, first);
   return code;
 }

@@ -1,6 +1,7 @@
 /* What comes of a database when one call of the system fails, or that one and all after it: no commit that was answered is lost, none is
    answered after the journal has failed, reads go on, and the next opening finds it whole. Linked with --wrap of the calls. */
 #define _POSIX_C_SOURCE 200809L
+#include <dirent.h>
 #include <errno.h>
 #include <fcntl.h>
 #include <pdt.h>
@@ -43,7 +44,12 @@ static void note(const char *name, long at) {
     if (!strcmp(name, cut_off[i]) && !first[i]) first[i] = at;
 }
 
+/* Those that a full disk refuses. */
+static bool is_full;
+static bool wants_room(const char *name) { return !strcmp(name, "openat") || !strcmp(name, "write") || !strcmp(name, "mkdirat"); }
+
 static bool falls(const char *name) {
+  if (is_full && !wants_room(name)) return false;
   long at = calls++;
   if (fails_at < 0) note(name, at);
   bool now = fails_at >= 0 && (at == fails_at || (stays && at > fails_at));
@@ -87,6 +93,8 @@ int __wrap_fsync(int file) {
 int __wrap_renameat(int a, const char *from, int b, const char *to) { return falls("renameat") ? -1 : __real_renameat(a, from, b, to); }
 int __wrap_unlinkat(int dir, const char *path, int how) { return falls("unlinkat") ? -1 : __real_unlinkat(dir, path, how); }
 int __wrap_mkdirat(int dir, const char *path, mode_t mode) { return falls("mkdirat") ? -1 : __real_mkdirat(dir, path, mode); }
+struct dirent *__real_readdir(DIR *);
+struct dirent *__wrap_readdir(DIR *names) { return falls("readdir") ? NULL : __real_readdir(names); }
 int __wrap_ftruncate(int file, off_t len) { return falls("ftruncate") ? -1 : __real_ftruncate(file, len); }
 
 /* ---- the run */
@@ -157,12 +165,27 @@ static void run_in(pdt_database *database, told *said) {
   }
 }
 
+/* How many names the folder has that begin so. */
+static long names(const char *folder, const char *front) {
+  DIR *all = opendir(folder);
+  long count = 0;
+  for (struct dirent *one; all && (one = readdir(all));) count += !strncmp(one->d_name, front, strlen(front));
+  if (all) closedir(all);
+  return count;
+}
+
+/* What is written under another name first is taken away where that fails. */
+static void leaves_nothing(const char *folder) {
+  is("what is left", 0, names(folder, "journal-new") + names(folder, "manifest-new") + names(folder, "types-new"));
+}
+
 static void run(const char *folder, told *said) {
   pdt_database *database = NULL;
   pdt_report report = {.size = sizeof report};
   int code = pdt_database_open(folder, &options, &database, &report);
   if (code) {
     is("an opening that fails", PDT_IO, code);
+    if (!stays) leaves_nothing(folder);
     return;
   }
   if (said->unsure && report.commits == said->unsure) said->answered = said->unsure; /* it is there, and stays */
@@ -203,6 +226,47 @@ static void run_whole(const char *folder, long at) {
   look(folder, &said);
 }
 
+/* A disk that is full from a call on while a table is dropped and one is made: nothing has changed where they answer so, nothing is left,
+   and commits on other tables go on once there is room. Whether there was such a call. */
+static bool fill_up(const char *folder, long at) {
+  pdt_database *database = NULL;
+  pdt_store *store = NULL, *other = NULL;
+  told said = {0, 0, true};
+  remove_all(folder);
+  is("open", PDT_OK, pdt_database_open(folder, &options, &database, NULL));
+  is("create", PDT_OK, pdt_table_create_csv(database, "items", csv, sizeof csv - 1, NULL, NULL, &store));
+  is("create", PDT_OK, pdt_table_create_csv(database, "old", csv, sizeof csv - 1, NULL, NULL, &other));
+  calls = 0, fails_at = at, stays = is_full = true, with = ENOSPC;
+  int dropped = pdt_table_drop(database, "old"), made = pdt_table_create_csv(database, "new", csv, sizeof csv - 1, NULL, NULL, &other);
+  fails_at = -1, stays = is_full = false;
+  bool was_full = calls > at;
+  if (dropped) is("a drop on a full disk", PDT_IO, dropped);
+  if (made) is("a creation on a full disk", PDT_IO, made);
+  is("images", 1 + !!dropped + !made, names(folder, "image-"));
+  leaves_nothing(folder);
+  is("a commit", PDT_OK, set(store, 1, 1, &said.answered));
+  is("another drop", dropped ? PDT_OK : PDT_MISSING, pdt_table_drop(database, "old"));
+  is("another creation", made ? PDT_OK : PDT_EXISTS, pdt_table_create_csv(database, "new", csv, sizeof csv - 1, NULL, NULL, &other));
+  is("close", PDT_OK, pdt_database_close(database));
+  look(folder, &said);
+  return was_full;
+}
+
+/* A disk that is full from a call of an opening on: the folder is as it was, and is opened once there is room. Whether there was such a
+   call. */
+static bool open_full(const char *folder, long at, const told *said) {
+  pdt_database *database = NULL;
+  calls = 0, fails_at = at, stays = is_full = true, with = ENOSPC;
+  int code = pdt_database_open(folder, &options, &database, NULL);
+  fails_at = -1, stays = is_full = false;
+  bool was_full = calls > at;
+  if (code) is("an opening on a full disk", PDT_IO, code);
+  leaves_nothing(folder);
+  is("close", PDT_OK, pdt_database_close(database));
+  look(folder, said);
+  return was_full;
+}
+
 int main(int argc, char **argv) {
   if (argc < 3) return 2;
   char folder[400];
@@ -239,6 +303,8 @@ int main(int argc, char **argv) {
     fails_at = -1;
   }
   for (long at = 0; at < all && failures < 10; at += every, runs++) run_whole(folder, at);
+  for (long at = 0; failures < 10 && open_full(folder, at, &none); at++) runs++;
+  for (long at = 0; failures < 10 && fill_up(folder, at); at++) runs++;
   syncs_no_folder = true;
   run_whole(folder, -1);
   printf("%ld calls, %d runs, %d failures\n", all, runs, failures);

@@ -3,13 +3,14 @@
 #include <stdlib.h>
 
 static long left = -1, refused;
+static int refuses_on; /* whether those after it are refused too */
 void *__real_malloc(size_t);
 void *__real_calloc(size_t, size_t);
 void *__real_realloc(void *, size_t);
 void __real_free(void *);
 static int refuse(void) {
   if (left != 0) return left > 0 ? (left--, 0) : 0;
-  left = -1;
+  if (!refuses_on) left = -1;
   refused++;
   return 1;
 }

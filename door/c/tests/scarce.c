@@ -1,6 +1,7 @@
 /* Each of the allocations of a run over a database is refused once, in turn: the call that wanted it says so, the same call then does
    its work, what is found in the end is right each time, and no memory stays. And each of those of a commit over which the device fails:
-   what was safe before is read as ever. Linked with --wrap of malloc, calloc, realloc, free and fdatasync. */
+   what was safe before is read as ever. The power stays on, so that nothing is really synced: on a slow disk that would take minutes.
+   Linked with --wrap of malloc, calloc, realloc, free and fdatasync. */
 #include "refusing.h"
 
 #include <errno.h>
@@ -97,12 +98,11 @@ static int run(const char *folder) {
 /* ---- where the device fails too */
 
 static bool fails_syncs;
-int __real_fdatasync(int);
 int __wrap_fdatasync(int file) {
-  if (!fails_syncs) return __real_fdatasync(file);
-  errno = EIO;
-  return -1;
+  (void)file;
+  return fails_syncs ? errno = EIO, -1 : 0;
 }
+int fsync(int file) { return (void)file, 0; } /* in place of the C library's */
 
 /* A commit that isn't synced, of which one allocation is refused. It is open then, or unsure; what was safe is read either way. */
 static int fail_both(const char *folder, long at) {
@@ -143,6 +143,29 @@ static int fail_both(const char *folder, long at) {
   return 0;
 }
 
+/* A drop of which an allocation and all after it are refused. Nothing has changed then: commits on the other table go on. */
+static int drop_refused(const char *folder, long at) {
+  pdt_database *database;
+  pdt_store *a, *b;
+  pdt_txn *txn;
+  int64_t one = 1;
+  CALL(pdt_database_open(folder, &options, &database, NULL));
+  CALL(pdt_table_create_csv(database, "a", csv, sizeof csv - 1, NULL, NULL, &a));
+  CALL(pdt_table_create_csv(database, "b", csv, sizeof csv - 1, NULL, NULL, &b));
+  refuses_on = 1, left = at;
+  int code = pdt_table_drop(database, "b");
+  refuses_on = 0, left = -1;
+  CALL(pdt_begin(a, &txn));
+  CALL(pdt_set(txn, &one, NULL, 0, 1, 7, NULL));
+  CALL(pdt_commit(txn, NULL));
+  if (code) {
+    if (code != PDT_NOMEM) return fprintf(stderr, "a drop: %s\n", pdt_text(code)), 1;
+    CALL(pdt_table_drop(database, "b"));
+  }
+  CALL(pdt_database_close(database));
+  return 0;
+}
+
 int main(int argc, char **argv) {
   if (argc < 3) return 2;
   char folder[400], words[500];
@@ -163,6 +186,11 @@ int main(int argc, char **argv) {
     if (system(words)) return 1;
     refusals = refused;
     if (fail_both(folder, at)) return fprintf(stderr, "allocation %ld of a commit that isn't synced\n", at), 1;
+  }
+  for (long at = 0, refusals = -1; refused != refusals; at++, runs++) {
+    if (system(words)) return 1;
+    refusals = refused;
+    if (drop_refused(folder, at)) return fprintf(stderr, "allocation %ld of a drop, and all after it\n", at), 1;
   }
   printf("%ld runs, %ld refused, %ld answered\n", runs, refused, answered);
   return answered ? 0 : 1;
