@@ -224,6 +224,13 @@ int x_next(sqlite3_vtab_cursor *base) {
 
 int x_eof(sqlite3_vtab_cursor *base) { return ((const cursor *)base)->over; }
 
+/* A table of a key has no row numbers, but SQLite rewrites DELETE .. LIMIT and UPDATE .. LIMIT before it has read the table's declaration:
+   it lists the rows by their numbers, and looks them up in a second scan. Both are over one view, where a row keeps its position. */
+int x_rowid(sqlite3_vtab_cursor *base, sqlite3_int64 *row) {
+  *row = (sqlite3_int64)cursor_position((const cursor *)base);
+  return SQLITE_OK;
+}
+
 /* Room for a batch, which a cursor keeps. */
 static bool batch_make(batch *b, bool is_text) {
   if (!b->numbers) b->numbers = sqlite3_malloc(BATCH * sizeof *b->numbers);

@@ -292,6 +292,7 @@ int x_close(sqlite3_vtab_cursor *base);
 int x_filter(sqlite3_vtab_cursor *base, int plan, const char *words, int argc, sqlite3_value **argv);
 int x_next(sqlite3_vtab_cursor *base);
 int x_eof(sqlite3_vtab_cursor *base);
+int x_rowid(sqlite3_vtab_cursor *base, sqlite3_int64 *row);
 int x_column(sqlite3_vtab_cursor *base, sqlite3_context *to, int column);
 
 /* Whether a cursor of a view is under way, so that its positions matter. */
