@@ -1,10 +1,10 @@
 /* Each number that a store counts, by a run that is written down here; and the sizes of structs that may grow. */
-#define _POSIX_C_SOURCE 200809L
+#define _DEFAULT_SOURCE
+#include "events.h"
 #include <pdt.h>
 #include <pthread.h>
 #include <stdio.h>
 #include <string.h>
-#include <time.h>
 
 static int failures;
 static void is(const char *what, long long wanted, long long found) {
@@ -172,6 +172,11 @@ static void *waits(void *arg) {
   is("size", PDT_OK, pdt_size(store, &sizes));
   return arg;
 }
+static uint64_t waits_now(void) {
+  pdt_counts counts = {.size = sizeof counts};
+  is("count", PDT_OK, pdt_count(store, &counts));
+  return counts.waits;
+}
 static void holds(void) {
   pthread_t thread;
   pdt_txn *txn = setting(10, 60);
@@ -179,7 +184,8 @@ static void holds(void) {
   is("what this thread may not do", PDT_MISUSE, pdt_fold(store));
   counted("a commit that is prepared, and no wait of its own thread", 0);
   if (pthread_create(&thread, NULL, waits, NULL)) failures++;
-  nanosleep(&(struct timespec){0, 200000000}, NULL);
+  UNTIL(waits_now() > due.waits);
+  pass(200); /* that it is held for so long at least, is counted too */
   is("install", PDT_OK, pdt_install(txn));
   pthread_join(thread, NULL);
   due.commits++, due.kept++, due.kept_entries++;

@@ -1,5 +1,6 @@
 /* Databases: what is made, kept, found again and refused. */
 #define _DEFAULT_SOURCE
+#include "events.h"
 #include <dirent.h>
 #include <errno.h>
 #include <fcntl.h>
@@ -7,14 +8,9 @@
 #include <pthread.h>
 #include <sched.h>
 #include <signal.h>
-#include <stdbool.h>
-#include <stdio.h>
 #include <stdlib.h>
-#include <string.h>
 #include <sys/stat.h>
 #include <sys/wait.h>
-#include <time.h>
-#include <unistd.h>
 
 static int failures;
 static void is(const char *what, long long wanted, long long found) {
@@ -368,8 +364,7 @@ static void syncs_late(int sync) {
   is("a close under a transaction", PDT_MISUSE, pdt_database_close(database));
   pdt_abort(txn);
   committed(items, 10, 1);
-  int tries = 0;
-  while (counted(database).safe < 1 && tries++ < 100) usleep(100000);
+  UNTIL(counted(database).safe >= 1);
   is("safe", 1, (long long)counted(database).safe);
   closed(database);
   options = (pdt_database_options){.size = sizeof options, .no_upkeep = true};

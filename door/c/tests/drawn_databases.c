@@ -1,11 +1,15 @@
 /* Draws calls on a database from a seed and compares each reply with a model: tables of few rows, of which each transaction and each work
    copies what it sees. The names of the calls come from pdt.h by way of database_calls.h, and one that was never drawn fails the run.
+   The power stays on, so that nothing is really synced: four thousand syncs take minutes on a slow disk.
    drawn_databases FOLDER CALLS SEED */
 #define _POSIX_C_SOURCE 200809L
 #include <pdt.h>
 #include <stdio.h>
 #include <stdlib.h>
 #include <string.h>
+
+int fsync(int file) { return (void)file, 0; } /* in place of the C library's, as is the next */
+int fdatasync(int file) { return (void)file, 0; }
 
 static const char *const names[] = {
 #include "database_calls.h"

@@ -1,12 +1,13 @@
 /* The feed: what each commit changed, by position. Drawn histories are replayed from it alone into an array of rows, and compared
    with the table that a pin of each number shows. Then which numbers are kept, and how threads wait for the next one. */
-#define _POSIX_C_SOURCE 200809L
+#define _DEFAULT_SOURCE
+#include "events.h"
 #include <pdt.h>
 #include <pthread.h>
+#include <stdatomic.h>
 #include <stdio.h>
 #include <stdlib.h>
 #include <string.h>
-#include <time.h>
 
 static pthread_mutex_t failing = PTHREAD_MUTEX_INITIALIZER;
 static int failures;
@@ -256,42 +257,30 @@ static void keeps(void) {
 
 /* ---- waits */
 
-static double now(void) {
-  struct timespec at;
-  clock_gettime(CLOCK_MONOTONIC, &at);
-  return (double)at.tv_sec + (double)at.tv_nsec / 1e9;
-}
-static void sleep_for(long milliseconds) { nanosleep(&(struct timespec){milliseconds / 1000, milliseconds % 1000 * 1000000}, NULL); }
-
+enum { LONG = 90000 }; /* milliseconds: no wait that is woken lasts so long */
 typedef struct {
   pdt_store *store;
   uint64_t after, milliseconds, found;
   pdt_code code;
   double began, ended;
-  pthread_mutex_t lock;
-  bool has_begun;
+  atomic_long thread; /* once its wait comes next */
+  atomic_bool has_ended;
 } waiter;
 static void *waits(void *arg) {
   waiter *w = arg;
-  w->began = now();
-  pthread_mutex_lock(&w->lock);
-  w->has_begun = true;
-  pthread_mutex_unlock(&w->lock);
+  w->began = seconds();
+  w->thread = this_thread();
   w->code = pdt_wait(w->store, w->after, w->milliseconds, &w->found);
-  w->ended = now();
+  w->ended = seconds();
+  w->has_ended = true;
   return NULL;
 }
 static void waits_are(const char *what, waiter *w, void (*meanwhile)(pdt_store *), pdt_code code, uint64_t found) {
   pthread_t thread;
-  bool has_begun = false;
-  pthread_mutex_init(&w->lock, NULL);
+  bool is_waiting = false;
   if (pthread_create(&thread, NULL, waits, w)) exit(2);
-  while (!has_begun) {
-    sleep_for(150);
-    pthread_mutex_lock(&w->lock);
-    has_begun = w->has_begun;
-    pthread_mutex_unlock(&w->lock);
-  }
+  UNTIL((is_waiting = w->has_ended || is_asleep(w->thread)));
+  is("it waits", true, is_waiting);
   meanwhile(w->store);
   pthread_join(thread, NULL);
   is(what, code, w->code);
@@ -304,7 +293,7 @@ static void installs(pdt_store *store) {
   is("begin", PDT_OK, pdt_begin(store, &txn));
   is("set", PDT_OK, pdt_set(txn, (int64_t[]){4}, NULL, 0, 3, 1, NULL));
   is("prepare", PDT_OK, pdt_prepare(txn, NULL));
-  sleep_for(50);
+  pass(50);
   is("install", PDT_OK, pdt_install(txn));
 }
 static void closes(pdt_store *store) {
@@ -312,34 +301,35 @@ static void closes(pdt_store *store) {
   commit_one(store, 6);
 }
 static double second; /* when the second of two commits was asked for */
-static void twice(pdt_store *store) { commit_one(store, 7), sleep_for(100), second = now(), commit_one(store, 8); }
+static void twice(pdt_store *store) { commit_one(store, 7), pass(100), second = seconds(), commit_one(store, 8); }
 
 static void waiting(void) {
   static table t;
   pdt_store *store = opened(&t, 0);
   uint64_t number = 77;
   for (int i = 0; i < 20; i++) { /* for more than a second, so that one of them ends in another second than it began in */
-    double began = now();
+    double began = seconds(), took;
     number = 77;
     is("a wait for what isn't there", PDT_MISSING, pdt_wait(store, 0, 60, &number));
-    is("in its time", 1, now() - began >= 0.06 && now() - began < 30);
+    took = seconds() - began;
+    is("in its time", 1, took >= 0.06 && took < LIMIT);
     is("the newest number", 0, (long long)number);
   }
-  waiter w = {.store = store, .after = 0, .milliseconds = 60000};
+  waiter w = {.store = store, .after = 0, .milliseconds = LONG};
   waits_are("a commit wakes", &w, commits, PDT_OK, 1);
-  is("at once", 1, w.ended - w.began < 30);
+  is("at once", 1, w.ended - w.began < LIMIT);
   w = (waiter){.store = store, .after = 1, .milliseconds = UINT64_MAX};
   waits_are("an install wakes one that would wait for ever", &w, installs, PDT_OK, 2);
-  w = (waiter){.store = store, .after = 2, .milliseconds = 300};
+  w = (waiter){.store = store, .after = 2, .milliseconds = 1000};
   waits_are("a fold doesn't wake", &w, folds, PDT_MISSING, 2);
-  is("to the end", 1, w.ended - w.began >= 0.3);
-  w = (waiter){.store = store, .after = 2, .milliseconds = 60000};
+  is("to the end", 1, w.ended - w.began >= 1);
+  w = (waiter){.store = store, .after = 2, .milliseconds = LONG};
   waits_are("a store stays while one waits", &w, closes, PDT_OK, 3);
-  w = (waiter){.store = store, .after = 4, .milliseconds = 60000};
+  w = (waiter){.store = store, .after = 4, .milliseconds = LONG};
   waits_are("the second commit wakes", &w, twice, PDT_OK, 5);
   is("and not the first", 1, w.ended >= second);
   is("what is there is told at once", PDT_OK, pdt_wait(store, 4, 0, NULL));
-  is("what is there is told at once", PDT_OK, pdt_wait(store, 0, 60000, &number));
+  is("what is there is told at once", PDT_OK, pdt_wait(store, 0, LONG, &number));
   is("with the newest number", 5, (long long)number);
   is("what isn't too", PDT_MISSING, pdt_wait(store, 5, 0, &number));
   is("past all numbers", PDT_MISSING, pdt_wait(store, UINT64_MAX, 1, NULL));
@@ -358,7 +348,7 @@ static void *follows(void *arg) {
   follower *f = arg;
   uint64_t done = 0, newest = 0;
   while (done < FOLLOWED) {
-    pdt_code code = pdt_wait(f->store, done, 60000, &newest);
+    pdt_code code = pdt_wait(f->store, done, LONG, &newest);
     is("a commit comes", PDT_OK, code);
     if (code) return NULL;
     for (; done < newest; done++) {

@@ -1,5 +1,6 @@
 /* Each allocation of an opening over columns, of checkpoints in one part and in two, and of recoveries is refused once, in turn:
-   the call says so, made again it does its work, and no memory stays. Linked with --wrap of malloc, calloc, realloc and free. */
+   the call says so, made again it does its work, and no memory stays. The power stays on, so that nothing is really synced: six thousand
+   syncs take minutes on a slow disk. Linked with --wrap of malloc, calloc, realloc and free. */
 #define _POSIX_C_SOURCE 200809L
 #include "refusing.h"
 
@@ -8,6 +9,8 @@
 #include <stdlib.h>
 #include <string.h>
 #include <unistd.h>
+
+int fsync(int file) { return (void)file, 0; } /* in place of the C library's */
 
 /* Makes a call, and once more where memory was refused. */
 #define CALL(call)                                                                   \

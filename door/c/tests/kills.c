@@ -2,6 +2,7 @@
    transfer is there by half, and none that was answered is missing. Each transfer takes from one table, adds to another, and enters
    itself in a third, all in one work; those that were answered are noted in memory that the processes share. */
 #define _DEFAULT_SOURCE
+#include "events.h"
 #include <pdt.h>
 #include <pthread.h>
 #include <signal.h>
@@ -10,8 +11,6 @@
 #include <string.h>
 #include <sys/mman.h>
 #include <sys/wait.h>
-#include <time.h>
-#include <unistd.h>
 
 enum { THREADS = 16, ACCOUNTS = 40, MONEY = 1000, MOST = 1 << 20 };
 
@@ -138,15 +137,18 @@ int main(int argc, char **argv) {
   for (int round = 0; round < rounds && !failures; round++) {
     shared->is_open = false;
     fflush(NULL);
+    uint32_t answered = shared->answered;
     pid_t pid = fork();
     if (!pid) child(folder, round, sync);
+    int status = 0;
+    bool has_ended = false;
     if (round % 3) { /* in the midst of the transfers; else at any moment, of an opening too */
-      while (!shared->is_open && !waitpid(pid, &(int){0}, WNOHANG)) usleep(200);
+      UNTIL((has_ended = waitpid(pid, &status, WNOHANG)) || (shared->is_open && shared->answered > answered));
+      is("a transfer is answered", 1, shared->answered > answered);
     }
     usleep((unsigned)rand_r(&seed) % (round % 3 ? 60000 : 8000));
-    kill(pid, SIGKILL);
-    int status;
-    if (waitpid(pid, &status, 0) == pid && !WIFSIGNALED(status)) is("the child", 0, 1);
+    if (!has_ended) kill(pid, SIGKILL), waitpid(pid, &status, 0);
+    is("the child is killed", 1, WIFSIGNALED(status));
     pid = fork(); /* a process of its own looks, so that what it opens is gone with it */
     if (!pid) {
       look(folder);

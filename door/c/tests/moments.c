@@ -1,155 +1,7 @@
 /* Databases at chosen moments: calls of the system are held in one thread while others go on, or fail once. What is told is that no
    reader sees what a crash could take away, that none waits for ever, and what a step leaves that comes between two others. Linked with
    --wrap of write, fdatasync, fsync, renameat and close. */
-#define _POSIX_C_SOURCE 200809L
-#include <errno.h>
-#include <pdt.h>
-#include <pthread.h>
-#include <stdatomic.h>
-#include <stdio.h>
-#include <stdlib.h>
-#include <string.h>
-#include <sys/stat.h>
-#include <time.h>
-#include <unistd.h>
-
-static int failures;
-static void is(const char *what, long long wanted, long long found) {
-  if (wanted == found) return;
-  failures++;
-  fprintf(stderr, "%s: wanted %lld, found %lld\n", what, wanted, found);
-}
-
-/* ---- moments */
-
-static void pass(long ms) { nanosleep(&(struct timespec){ms / 1000, ms % 1000 * 1000000}, NULL); }
-/* Waits for something, and gives up after a while: whoever asks looks again. */
-static bool comes(atomic_int *at, int wanted) {
-  for (int i = 0; i < 5000 && *at < wanted; i++) pass(1);
-  return *at >= wanted;
-}
-
-static atomic_int holds_syncs, syncs_begun, syncs_let; /* the n-th sync of data goes on once so many are let go */
-static atomic_int holds_writes, writes_begun, writes_let;
-static atomic_int holds_headers, headers_begun, headers_let;
-static atomic_int slow_headers, fails_fsyncs, fails_renames, renames_wait, renames_begun, renames_let;
-
-static void hold(atomic_int *begun, atomic_int *let) {
-  int number = ++*begun;
-  while (*let < number) pass(1);
-}
-static void hold_syncs(void) {
-  syncs_begun = 0;
-  syncs_let = 0;
-  holds_syncs = 1;
-}
-static void hold_renames(void) {
-  renames_begun = 0;
-  renames_let = 0;
-  renames_wait = 1;
-}
-static void let_syncs(void) {
-  holds_syncs = 0;
-  syncs_let = 1 << 20;
-}
-
-ssize_t __real_write(int, const void *, size_t);
-int __real_fsync(int);
-int __real_renameat(int, const char *, int, const char *);
-ssize_t __wrap_write(int file, const void *bytes, size_t len) {
-  if (slow_headers && len == 36) pass(30);
-  if (holds_headers && len == 36) hold(&headers_begun, &headers_let);
-  if (holds_writes) hold(&writes_begun, &writes_let);
-  return __real_write(file, bytes, len);
-}
-/* A close of this thread's, which comes once the journal goes on in another file. */
-static _Thread_local bool holds_close;
-static atomic_int closes_begun, closes_let;
-int __real_close(int);
-int __wrap_close(int file) {
-  if (holds_close) {
-    holds_close = false;
-    hold(&closes_begun, &closes_let);
-  }
-  return __real_close(file);
-}
-int __wrap_fdatasync(int file) { /* the power stays on: nothing is really synced */
-  (void)file;
-  if (holds_syncs) hold(&syncs_begun, &syncs_let);
-  return 0;
-}
-int __wrap_fsync(int file) {
-  (void)file;
-  if (!fails_fsyncs) return 0;
-  fails_fsyncs--;
-  errno = EIO;
-  return -1;
-}
-int __wrap_renameat(int dir, const char *from, int to_dir, const char *to) {
-  if (renames_wait) hold(&renames_begun, &renames_let);
-  if (fails_renames) return errno = EIO, -1;
-  return __real_renameat(dir, from, to_dir, to);
-}
-
-/* ---- a database */
-
-static const char *room;
-static const char csv[] = "id:int:key,qty:int\n0,0\n1,0\n2,0\n3,0\n";
-static pdt_database *opened(const char *name, const pdt_database_options *options, pdt_report *report) {
-  char folder[500];
-  snprintf(folder, sizeof folder, "%s/%s", room, name);
-  pdt_database *database = NULL;
-  int code = pdt_database_open(folder, options, &database, report);
-  is("open", PDT_OK, code);
-  if (!database) exit(1);
-  return database;
-}
-static pdt_store *created(pdt_database *database, const char *name) {
-  pdt_store *store = NULL;
-  is("create", PDT_OK, pdt_table_create_csv(database, name, csv, sizeof csv - 1, NULL, NULL, &store));
-  return store;
-}
-static void closed(pdt_database *database) { is("close", PDT_OK, pdt_database_close(database)); }
-static pdt_txn *begun(pdt_store *store) {
-  pdt_txn *txn = NULL;
-  is("begin", PDT_OK, pdt_begin(store, &txn));
-  return txn;
-}
-static void set(pdt_txn *txn, int64_t key, int64_t qty) { is("set", PDT_OK, pdt_set(txn, &key, NULL, 0, 1, qty, NULL)); }
-static pdt_database_counts counted(pdt_database *database) {
-  pdt_database_counts counts = {.size = sizeof counts};
-  is("count", PDT_OK, pdt_database_count(database, &counts));
-  return counts;
-}
-
-/* What a thread is asked for, and whether it has done it. */
-typedef struct {
-  pthread_t thread;
-  pdt_database *database;
-  pdt_store *store;
-  const char *name;
-  int64_t key;
-  pdt_txn *txn;
-  pdt_work *work;
-  uint64_t number;
-  atomic_int code, ends, goes;
-} task;
-static void start(task *one, void *(*call)(void *)) {
-  one->ends = 0;
-  is("thread", 0, pthread_create(&one->thread, NULL, call, one));
-}
-static int joined(task *one) {
-  pthread_join(one->thread, NULL);
-  return one->code;
-}
-static void *commits(void *context) {
-  task *one = context;
-  pdt_txn *txn = begun(one->store);
-  set(txn, one->key, 7);
-  one->code = pdt_commit(txn, &one->number);
-  one->ends = 1;
-  return NULL;
-}
+#include "held.h"
 
 /* ---- what isn't on the device isn't seen */
 
@@ -173,9 +25,8 @@ static void sees(pdt_database *database, pdt_store *store, uint64_t number, bool
   is("no more changes", PDT_MISSING, pdt_changes(store, number + 1, &layer));
   is("no wait is over", PDT_MISSING, pdt_wait(store, number, 0, &found));
 }
-static void *waits(void *context) {
-  task *one = context;
-  one->code = pdt_wait(one->store, 0, 8000, &one->number);
+static void *waits(task *one) {
+  one->code = pdt_wait(one->store, 0, 1500 * LIMIT, &one->number);
   one->ends = 1;
   return NULL;
 }
@@ -186,24 +37,25 @@ static void hides(void) {
   pdt_store *store = created(database, "a");
   task waiter = {.store = store}, one = {.store = store, .key = 0}, two = {.store = store, .key = 1};
   start(&waiter, waits);
-  hold_syncs();
+  comes_to_wait("a wait", &waiter);
+  hold(&syncs);
   start(&one, commits);
-  is("a sync", 1, comes(&syncs_begun, 1));
+  is("a sync", 1, comes(&syncs.begun, 1));
   start(&two, commits);
-  for (int i = 0; i < 5000 && counted(database).commits < 2; i++) pass(1);
+  UNTIL(counted(database).commits >= 2);
   is("both are installed", 2, (long long)counted(database).commits);
   sees(database, store, 0, true);
   is("a fold", PDT_OK, pdt_fold(store));
   sees(database, store, 0, true);
-  is("nobody is woken", 0, waiter.ends);
-  syncs_let = 1;
-  is("the next sync", 1, comes(&syncs_begun, 2));
+  comes_to_wait("nobody is woken", &waiter);
+  syncs.let = 1;
+  is("the next sync", 1, comes(&syncs.begun, 2));
   is("the first is answered", PDT_OK, joined(&one));
   sees(database, store, 1, true);
   is("the waiter is woken", 1, comes(&waiter.ends, 1));
   is("and told", PDT_OK, joined(&waiter));
   is("the second isn't", 0, two.ends);
-  let_syncs();
+  let(&syncs);
   is("the second is answered", PDT_OK, joined(&two));
   sees(database, store, 2, true);
   closed(database);
@@ -211,21 +63,18 @@ static void hides(void) {
 
 /* ---- what saw a commit that isn't safe waits for it, also where it changes nothing */
 
-static void *ends_commit(void *context) {
-  task *one = context;
+static void *ends_commit(task *one) {
   one->code = pdt_commit(one->txn, &one->number);
   one->ends = 1;
   return NULL;
 }
-static void *ends_parts(void *context) {
-  task *one = context;
+static void *ends_parts(task *one) {
   one->code = pdt_prepare(one->txn, &one->number);
   if (!one->code) one->code = pdt_install(one->txn);
   one->ends = 1;
   return NULL;
 }
-static void *ends_work(void *context) {
-  task *one = context;
+static void *ends_work(task *one) {
   one->code = pdt_work_commit(one->work, &one->number);
   one->ends = 1;
   return NULL;
@@ -236,20 +85,19 @@ static void early(void) {
   pdt_database *database = opened("early", &options, NULL);
   pdt_store *store = created(database, "a");
   task writer = {.store = store}, by_commit = {.store = store}, by_parts = {.store = store}, by_work = {.store = store};
-  hold_syncs();
+  hold(&syncs);
   start(&writer, commits);
-  is("a sync", 1, comes(&syncs_begun, 1));
+  is("a sync", 1, comes(&syncs.begun, 1));
   by_commit.txn = begun(store);
   by_parts.txn = begun(store);
   is("work", PDT_OK, pdt_work_begin(database, &by_work.work));
   start(&by_commit, ends_commit);
   start(&by_parts, ends_parts);
   start(&by_work, ends_work);
-  pass(50);
-  is("a commit waits", 0, by_commit.ends);
-  is("a commit in two parts waits", 0, by_parts.ends);
-  is("a work waits", 0, by_work.ends);
-  let_syncs();
+  comes_to_wait("a commit waits", &by_commit);
+  comes_to_wait("a commit in two parts waits", &by_parts);
+  comes_to_wait("a work waits", &by_work);
+  let(&syncs);
   task *all[] = {&writer, &by_commit, &by_parts, &by_work};
   for (int i = 0; i < 4; i++) {
     is("an end", PDT_OK, joined(all[i]));
@@ -265,11 +113,11 @@ static void prepared(void) {
   pdt_database *database = opened("prepared", &options, NULL);
   pdt_store *store = created(database, "a");
   task one = {.store = store, .key = 0}, two = {.store = store, .key = 1};
-  holds_writes = 1;
+  hold(&writes);
   start(&one, commits);
-  is("a write", 1, comes(&writes_begun, 1));
+  is("a write", 1, comes(&writes.begun, 1));
   start(&two, commits); /* is installed, and waits for the turn */
-  for (int i = 0; i < 1000 && counted(database).commits < 2; i++) pass(1);
+  UNTIL(counted(database).commits >= 2);
   pdt_txn *reader = begun(store), *txn = begun(store), *other = begun(store);
   pdt_work *work = NULL;
   is("work", PDT_OK, pdt_work_begin(database, &work));
@@ -279,11 +127,10 @@ static void prepared(void) {
   is("sees both", 2, (long long)number);
   is("prepare", PDT_OK, pdt_prepare(txn, NULL));
   is("nothing to prepare", PDT_OK, pdt_prepare(other, NULL));
-  holds_writes = 0;
-  writes_let = 1 << 20; /* the second thread has the turn now, and waits for the lock */
+  let(&writes);
   is("the first", PDT_OK, joined(&one));
-  pass(30);
-  alarm(20); /* for ever, if it waits */
+  comes_to_wait("the second has the turn now, and waits for the lock", &two);
+  alarm(LIMIT); /* for ever, if it waits */
   is("what it saw isn't written", PDT_MISUSE, pdt_commit(reader, NULL));
   is("nor of a work", PDT_MISUSE, pdt_work_commit(work, NULL));
   is("nor in two parts", PDT_MISUSE, pdt_install(other));
@@ -321,20 +168,17 @@ static void prepared(void) {
 
 /* ---- tables that are made and dropped while others commit and begin works */
 
-static void *creates(void *context) {
-  task *one = context;
+static void *creates(task *one) {
   one->code = pdt_table_create_csv(one->database, one->name, csv, sizeof csv - 1, NULL, NULL, &one->store);
   one->ends = 1;
   return NULL;
 }
-static void *drops(void *context) {
-  task *one = context;
+static void *drops(task *one) {
   one->code = pdt_table_drop(one->database, one->name);
   one->ends = 1;
   return NULL;
 }
-static void *prepares(void *context) { /* and installs once it is told to */
-  task *one = context;
+static void *prepares(task *one) { /* and installs once it is told to */
   pdt_txn *txn = begun(one->store);
   set(txn, 0, 9);
   is("prepare", PDT_OK, pdt_prepare(txn, NULL));
@@ -351,37 +195,37 @@ static void tables(void) {
   pdt_store *a = created(database, "a");
   /* a table is made over what is safe */
   task writer = {.store = a}, maker = {.database = database, .name = "b"};
-  hold_syncs();
+  hold(&syncs);
   start(&writer, commits);
-  is("a sync", 1, comes(&syncs_begun, 1));
+  is("a sync", 1, comes(&syncs.begun, 1));
   start(&maker, creates);
-  pass(50);
-  is("a creation waits", 0, maker.ends);
-  let_syncs();
+  comes_to_wait("a creation waits", &maker);
+  let(&syncs);
   is("the commit", PDT_OK, joined(&writer));
   is("the creation", PDT_OK, joined(&maker));
 
   /* a commit comes between its manifest and the list: a crash could take that one away, and its number */
   task other = {.store = a};
   maker.name = "c";
-  hold_renames();
+  hold(&renames);
   start(&maker, creates);
-  is("a manifest", 1, comes(&renames_begun, 1));
+  is("a manifest", 1, comes(&renames.begun, 1));
   start(&other, prepares);
   is("prepared", 1, comes(&other.ends, 1));
-  hold_syncs();
-  renames_wait = 0;
-  renames_let = 1;
-  pass(100); /* the maker has the turn, and waits for the lock */
+  hold(&syncs);
+  let(&renames);
+  comes(&renames.gone, 1);
+  comes_to_wait("the maker has the turn, and waits for the lock", &maker);
   other.goes = 1;
-  if (!comes(&maker.ends, 1)) let_syncs(); /* it came later than that, and waits for the turn: nothing is shown */
+  is("it waits for no sync of what came after it", 1, comes(&maker.ends, 1));
+  if (!maker.ends) let(&syncs);
   is("the creation", PDT_OK, joined(&maker));
   uint64_t number = 0;
   pdt_txn *txn = begun(maker.store);
   is("begun", PDT_OK, pdt_begun(txn, &number));
   pdt_abort(txn);
   is("the number of a new table is safe", 1, number <= counted(database).safe);
-  let_syncs();
+  let(&syncs);
   is("the commit between", PDT_OK, joined(&other));
   closed(database);
 
@@ -397,40 +241,54 @@ static void tables(void) {
   closed(database);
 }
 
+/* A thread that waits is kept where it is, whatever wakes it. */
+static atomic_int is_kept, goes_free;
+static void keep_here(int number) {
+  (void)number;
+  is_kept = 1;
+  while (!goes_free) pass(1);
+  is_kept = 0;
+}
+static void keep(task *one) {
+  goes_free = 0;
+  is("a handler", 0, sigaction(SIGUSR1, &(struct sigaction){.sa_handler = keep_here, .sa_flags = SA_RESTART}, NULL));
+  is("a signal", 0, pthread_kill(one->thread, SIGUSR1));
+  is("it is kept", 1, comes(&is_kept, 1));
+}
+static void free_kept(void) {
+  goes_free = 1;
+  UNTIL(!is_kept);
+}
+
 /* A drop waits for the turn, and a work begins meanwhile: it is over the table, which stays. */
 static void dropped(void) {
   pdt_database_options options = {.size = sizeof options, .no_upkeep = true};
   pdt_database *database = opened("dropped", &options, NULL);
-  pdt_store *a = created(database, "a"), *found = NULL;
-  bool met = false;
-  for (int i = 0; i < 50 && !met; i++) {
-    if (pdt_table_open(database, "b", &found)) found = created(database, "b");
-    task one = {.store = a, .key = 0}, two = {.store = a, .key = 1}, dropper = {.database = database, .name = "b"};
-    hold_syncs();
-    start(&one, commits);
-    is("a sync", 1, comes(&syncs_begun, 1));
-    start(&dropper, drops); /* waits for the first commit */
-    pass(10);
-    start(&two, commits);
-    pass(10);
-    syncs_let = 1;
-    pass(20); /* the second has the turn, or the drop */
-    pdt_work *work = NULL;
-    pdt_txn *txn = NULL;
-    if (!pdt_table_open(database, "b", &found)) {
-      is("work", PDT_OK, pdt_work_begin(database, &work));
-      met = pdt_work_on(work, found, &txn) == PDT_OK;
-    }
-    let_syncs();
-    is("the first", PDT_OK, joined(&one));
-    is("the second", PDT_OK, joined(&two));
-    int code = joined(&dropper);
-    if (met) is("a drop under a work", PDT_MISUSE, code);
-    if (met && code) is("it reads", PDT_OK, pdt_rows(txn, &(uint64_t){0})), pdt_work_abort(work);
-    else if (met) return; /* what the work has is gone */
-    else pdt_work_abort(work);
-  }
-  is("it came so", 1, met);
+  pdt_store *a = created(database, "a"), *b = created(database, "b");
+  task one = {.store = a, .key = 0}, two = {.store = a, .key = 1}, dropper = {.database = database, .name = "b"};
+  hold(&syncs);
+  start(&one, commits);
+  is("a sync", 1, comes(&syncs.begun, 1));
+  start(&dropper, drops);
+  comes_to_wait("a drop waits for the first commit", &dropper);
+  keep(&dropper);
+  syncs.let = 1;
+  is("the first", PDT_OK, joined(&one));
+  start(&two, commits);
+  is("the second has the turn", 1, comes(&syncs.begun, 2));
+  free_kept();
+  comes_to_wait("the drop waits for the turn", &dropper);
+  pdt_work *work = NULL;
+  pdt_txn *txn = NULL;
+  is("work", PDT_OK, pdt_work_begin(database, &work));
+  is("over the table", PDT_OK, pdt_work_on(work, b, &txn));
+  let(&syncs);
+  is("the second", PDT_OK, joined(&two));
+  int code = joined(&dropper);
+  is("a drop under a work", PDT_MISUSE, code);
+  if (!code) return; /* what the work has is gone */
+  is("it reads", PDT_OK, pdt_rows(txn, &(uint64_t){0}));
+  pdt_work_abort(work);
   is("a drop", PDT_OK, pdt_table_drop(database, "b"));
   closed(database);
 }
@@ -443,13 +301,13 @@ static void drops_late(void) {
   task one = {.store = a, .key = 0}, two = {.store = a, .key = 1}, dropper = {.database = database, .name = "a"};
   start(&one, commits);
   is("the first", PDT_OK, joined(&one));
-  hold_syncs();
+  hold(&syncs);
   start(&dropper, drops); /* waits for the first commit */
-  is("a sync", 1, comes(&syncs_begun, 1));
+  is("a sync", 1, comes(&syncs.begun, 1));
   start(&two, commits);
   is("the second", PDT_OK, joined(&two));
   is("its number", 2, (long long)two.number);
-  let_syncs();
+  let(&syncs);
   is("a drop", PDT_OK, joined(&dropper));
   closed(database);
   database = opened("drops-late", &options, NULL);
@@ -458,13 +316,6 @@ static void drops_late(void) {
   is("the third", PDT_OK, joined(&three));
   is("a number of its own", 3, (long long)three.number);
   closed(database);
-}
-
-static void *keeps_up(void *context) {
-  task *one = context;
-  one->code = pdt_upkeep(one->database);
-  one->ends = 1;
-  return NULL;
 }
 
 /* ---- a manifest that is there, and of which the device isn't sure */
@@ -481,13 +332,12 @@ static void unsure(void) {
   closed(database);
   database = opened("unsure", &options, NULL);
   is("it is there", PDT_OK, pdt_table_open(database, "a", &store));
-  hold_renames();
+  hold(&renames);
   task maker = {.database = database, .name = "b"};
   start(&maker, creates);
-  is("a manifest", 1, comes(&renames_begun, 1));
+  is("a manifest", 1, comes(&renames.begun, 1));
   fails_fsyncs = 1;
-  renames_wait = 0;
-  renames_let = 1;
+  let(&renames);
   is("a creation that fails", PDT_IO, joined(&maker));
   is("none", PDT_MISSING, pdt_table_open(database, "b", &store));
   closed(database);
@@ -502,13 +352,12 @@ static void unsure(void) {
   one = (task){.store = a, .key = 1};
   start(&one, commits);
   is("a commit", PDT_OK, joined(&one));
-  hold_renames();
+  hold(&renames);
   maker = (task){.database = database};
   start(&maker, keeps_up);
-  is("a manifest", 1, comes(&renames_begun, 1));
+  is("a manifest", 1, comes(&renames.begun, 1));
   fails_fsyncs = 1;
-  renames_wait = 0;
-  renames_let = 1;
+  let(&renames);
   is("an upkeep that fails", PDT_IO, joined(&maker));
   closed(database);
   database = opened("unsure", &options, NULL);
@@ -520,12 +369,12 @@ static void unsure(void) {
   one = (task){.store = a, .key = 2};
   start(&one, commits);
   is("a commit", PDT_OK, joined(&one));
-  hold_renames();
+  hold(&renames);
+  maker = (task){.database = database};
   start(&maker, keeps_up);
-  is("a manifest", 1, comes(&renames_begun, 1));
+  is("a manifest", 1, comes(&renames.begun, 1));
   fails_fsyncs = 1;
-  renames_wait = 0;
-  renames_let = 1;
+  let(&renames);
   is("an upkeep that fails", PDT_IO, joined(&maker));
   is("is counted", 1, (long long)counted(database).faults);
   is("and due at once", PDT_OK, pdt_upkeep(database));
@@ -547,7 +396,8 @@ static void unsure(void) {
   closed(database);
 }
 
-/* What fails is tried again, and not at once: a full disk isn't asked fifty times a second. */
+/* What fails is tried again, and not at once: a full disk isn't asked fifty times a second. Between two tries of the upkeep is a second,
+   or more on a machine that has much else to do. */
 static void pauses(void) {
   pdt_database_options options = {.size = sizeof options, .checkpoint_entries = 1};
   pdt_database *database = opened("pauses", &options, NULL);
@@ -556,9 +406,9 @@ static void pauses(void) {
   task one = {.store = store};
   start(&one, commits);
   is("commit", PDT_OK, joined(&one));
-  for (int i = 0; i < 500 && !counted(database).faults; i++) pass(1);
-  pass(200);
-  is("one try", 1, (long long)counted(database).faults);
+  is("a try, and another", 1, comes(&tries, 2));
+  is("a second later", 1, tried[1] - tried[0] >= 1);
+  is("is counted", 1, counted(database).faults >= 1);
   fails_renames = 0;
   closed(database);
 }
@@ -590,33 +440,48 @@ static void late(int sync, const char *name) {
   pdt_database_options options = {.size = sizeof options, .sync = sync};
   pdt_database *database = opened(name, &options, NULL);
   pdt_store *store = created(database, "a");
-  pass(100); /* past the sync of the first round */
-  task one = {.store = store};
-  start(&one, commits);
-  is("commit", PDT_OK, joined(&one));
-  for (int i = 0; i < 500 && !counted(database).safe; i++) pass(10);
-  is("is on the device", 1, (long long)counted(database).safe);
+  for (uint64_t number = 1; number <= 2; number++) { /* the second comes after the sync of some round */
+    task one = {.store = store, .key = (int64_t)number};
+    start(&one, commits);
+    is("commit", PDT_OK, joined(&one));
+    UNTIL(counted(database).safe >= number);
+    is("is on the device", (long long)number, (long long)counted(database).safe);
+  }
   closed(database);
 }
 
-/* While who has the turn goes on in the next file of the journal, the upkeep wants another one: it waits for that one's frames. */
-static void *commits_held(void *context) {
+/* While who has the turn goes on in the next file of the journal, the upkeep wants another one: it waits for that one's frames. The work
+   has it fold the first table, which is counted, and want an image of the second one then. */
+static void *ends_work_held(task *one) {
   holds_close = true;
-  return commits(context);
+  return ends_work(one);
+}
+static void sets_rows(pdt_txn *txn, int64_t count) {
+  for (int64_t key = 0; key < count; key++) set(txn, key, 1);
 }
 static void next_file(void) {
-  pdt_database_options options = {.size = sizeof options, .checkpoint_entries = 1};
+  pdt_database_options options = {.size = sizeof options, .fold_entries = 1, .checkpoint_entries = 2};
   pdt_database *database = opened("next", &options, NULL);
   pdt_store *a = created(database, "a"), *b = created(database, "b");
-  task one = {.store = a, .key = 0}, two = {.store = b, .key = 1};
-  start(&one, commits);
-  is("commit", PDT_OK, joined(&one));
-  for (int i = 0; i < 500 && counted(database).images < 1; i++) pass(10);
-  start(&two, commits_held);
-  if (comes(&closes_begun, 1)) pass(200); /* some rounds of the upkeep */
-  closes_let = 1 << 20;
+  pdt_txn *txn = begun(a), *other = NULL;
+  sets_rows(txn, 2);
+  is("commit", PDT_OK, pdt_commit(txn, NULL));
+  UNTIL(counted(database).images >= 1);
+  long upkeep = renamer;
+  uint64_t folds = counted(database).folds;
+  task two = {.database = database};
+  is("work", PDT_OK, pdt_work_begin(database, &two.work));
+  is("on a", PDT_OK, pdt_work_on(two.work, a, &txn));
+  is("on b", PDT_OK, pdt_work_on(two.work, b, &other));
+  sets_rows(txn, 1), sets_rows(other, 2);
+  hold(&closes);
+  start(&two, ends_work_held);
+  is("a close", 1, comes(&closes.begun, 1));
+  UNTIL(counted(database).folds > folds);
+  UNTIL(is_asleep(upkeep)); /* until the turn ends */
+  let(&closes);
   is("commit", PDT_OK, joined(&two));
-  for (int i = 0; i < 500 && counted(database).images < 2; i++) pass(10); /* its manifest names the files that are wanted */
+  UNTIL(counted(database).images >= 2); /* its manifest names the files that are wanted */
   closed(database);
   options.no_upkeep = true;
   pdt_report report = {.size = sizeof report};
@@ -625,32 +490,46 @@ static void next_file(void) {
   closed(database);
 }
 
-/* Once it has gone on in a file that has no header yet, the upkeep takes no file away before it: a copy of the folder has all. */
+/* Once it has gone on in a file that has no header yet, the upkeep takes no file away before it: a copy of the folder has all. A table
+   that is folded twice meanwhile tells that a whole round has gone by. */
 static void copied(const char *from, const char *to) {
   char words[1200];
   snprintf(words, sizeof words, "cp -r '%s/%s' '%s/%s'", room, from, room, to);
   is("copy", 0, system(words));
 }
+static uint64_t folds_of(pdt_store *store) {
+  pdt_counts counts = {.size = sizeof counts};
+  is("count", PDT_OK, pdt_count(store, &counts));
+  return counts.folds;
+}
+static void copies_begun(pdt_database *database, pdt_store *b, pdt_store *c) {
+  task two = {.store = b}, more[2] = {{.store = c, .key = 0}, {.store = c, .key = 1}};
+  hold(&headers);
+  start(&two, commits);
+  is("a header", 1, comes(&headers.begun, 1));
+  for (uint64_t i = 0; i < 2; i++) {
+    start(&more[i], commits);
+    UNTIL(folds_of(c) > i);
+    is("a fold", (long long)i + 1, (long long)folds_of(c));
+  }
+  copied("begun", "begun-copy");
+  let(&headers);
+  is("commit", PDT_OK, joined(&two));
+  for (int i = 0; i < 2; i++) is("commit", PDT_OK, joined(&more[i]));
+  closed(database);
+}
 static void begun_file(void) {
-  pdt_database_options options = {.size = sizeof options, .checkpoint_entries = 2};
+  pdt_database_options options = {.size = sizeof options, .fold_entries = 1, .checkpoint_entries = 3};
   pdt_database *database = opened("begun", &options, NULL);
-  pdt_store *a = created(database, "a"), *b = created(database, "b"), *found = NULL;
-  task one = {.store = a}, two = {.store = b};
+  pdt_store *a = created(database, "a"), *b = created(database, "b"), *c = created(database, "c"), *found = NULL;
+  task one = {.store = a};
   start(&one, commits);
   is("commit", PDT_OK, joined(&one));
   pdt_txn *txn = begun(b);
-  set(txn, 0, 1), set(txn, 1, 1);
+  sets_rows(txn, 3);
   is("commit", PDT_OK, pdt_commit(txn, NULL));
-  for (int i = 0; i < 500 && counted(database).images < 1; i++) pass(10);
-  holds_headers = 1;
-  start(&two, commits);
-  is("a header", 1, comes(&headers_begun, 1));
-  pass(100); /* some rounds of the upkeep */
-  copied("begun", "begun-copy");
-  holds_headers = 0;
-  headers_let = 1;
-  is("commit", PDT_OK, joined(&two));
-  closed(database);
+  UNTIL(counted(database).images >= 1);
+  copies_begun(database, b, c);
   options.no_upkeep = true;
   pdt_report report = {.size = sizeof report};
   database = opened("begun-copy", &options, &report);
@@ -669,17 +548,16 @@ static void late_under_image(void) {
   pdt_database_options options = {.size = sizeof options, .sync = PDT_SYNC_NORMAL, .checkpoint_entries = 1};
   pdt_database *database = opened("long", &options, NULL);
   pdt_store *store = created(database, "a");
-  hold_renames();
+  hold(&renames);
   task one = {.store = store, .key = 0}, two = {.store = store, .key = 1};
   start(&one, commits);
   is("commit", PDT_OK, joined(&one));
-  is("a manifest", 1, comes(&renames_begun, 1));
+  is("a manifest", 1, comes(&renames.begun, 1));
   start(&two, commits);
   is("commit", PDT_OK, joined(&two));
-  for (int i = 0; i < 500 && counted(database).safe < 2; i++) pass(10);
+  UNTIL(counted(database).safe >= 2);
   is("is on the device", 2, (long long)counted(database).safe);
-  renames_wait = 0;
-  renames_let = 1 << 20;
+  let(&renames);
   closed(database);
 }
 

@@ -1,13 +1,12 @@
 /* A commit in two parts, with a log that an engine writes in between, and a checkpoint that is written while others commit. */
-#define _POSIX_C_SOURCE 200809L
+#define _DEFAULT_SOURCE
+#include "events.h"
 #include <pdt.h>
 #include <pthread.h>
 #include <signal.h>
 #include <stdio.h>
 #include <stdlib.h>
 #include <sys/wait.h>
-#include <time.h>
-#include <unistd.h>
 
 static int failures;
 static void is(const char *what, long long wanted, long long found) {
@@ -175,6 +174,12 @@ static void *commits_too(void *arg) {
   return NULL;
 }
 
+static uint64_t waits_of(pdt_store *store) {
+  pdt_counts counts = {.size = sizeof counts};
+  is("count", PDT_OK, pdt_count(store, &counts));
+  return counts.waits;
+}
+
 /* Another thread can't end what is prepared, and its abort of what isn't waits for nothing; its begin doesn't wait either, and its
    commit does. */
 static void commits_wait(void) {
@@ -189,7 +194,8 @@ static void commits_wait(void) {
   is("size", PDT_OK, pdt_size(w.store, &sizes));
   is("open are", 1, (long long)sizes.open_transactions);
   if (pthread_create(&thread, NULL, commits_too, &w)) exit(1);
-  nanosleep(&(struct timespec){0, 50000000}, NULL);
+  UNTIL(waits_of(w.store) > 0);
+  is("it finds the lock taken", 1, (long long)waits_of(w.store));
   pthread_mutex_lock(&w.lock);
   is("it waits", 0, w.has_ended);
   pthread_mutex_unlock(&w.lock);

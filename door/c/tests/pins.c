@@ -1,12 +1,13 @@
 /* Pins: versions of a table that are kept, over which transactions begin whatever was committed since. Each commit moves an amount
    from one row to another and adds 7, so that the sum of the table of number n is that of the first one and 7 n: a pin of another
    number has another sum. */
-#define _POSIX_C_SOURCE 200809L
+#define _DEFAULT_SOURCE
+#include "events.h"
 #include <pdt.h>
 #include <pthread.h>
+#include <stdatomic.h>
 #include <stdio.h>
 #include <stdlib.h>
-#include <time.h>
 
 static pthread_mutex_t failing = PTHREAD_MUTEX_INITIALIZER;
 static int failures;
@@ -94,7 +95,8 @@ typedef struct {
   pdt_pinned *pins[PINS];
   int count; /* how many pins there are by now */
   bool has_ended;
-  long scans, commits;
+  atomic_long scans; /* by now */
+  long commits;
 } shared;
 typedef struct {
   shared *with;
@@ -104,7 +106,6 @@ typedef struct {
 static void *reads(void *arg) {
   worker *w = arg;
   shared *s = w->with;
-  long scans = 0;
   for (int i = w->number;; i++) {
     pthread_mutex_lock(&s->lock);
     pdt_pinned *pin = s->pins[i % s->count];
@@ -116,12 +117,9 @@ static void *reads(void *arg) {
     is("at its pin", (long long)pdt_pinned_commits(pin), (long long)number);
     is("the sum of its number", sum_at(number), sum_of(txn, i % 2));
     pdt_abort(txn);
-    scans++;
+    s->scans++;
     if (has_ended) break;
   }
-  pthread_mutex_lock(&s->lock);
-  s->scans += scans;
-  pthread_mutex_unlock(&s->lock);
   return NULL;
 }
 
@@ -154,6 +152,12 @@ static void *writes(void *arg) {
   return NULL;
 }
 
+static uint64_t packs_of(pdt_store *store) {
+  pdt_counts counts = {.size = sizeof counts};
+  is("count", PDT_OK, pdt_count(store, &counts));
+  return counts.packs;
+}
+
 static void side_by_side(void) {
   shared s = {.store = opened(0), .lock = PTHREAD_MUTEX_INITIALIZER};
   pthread_t threads[READERS + WRITERS];
@@ -167,24 +171,25 @@ static void side_by_side(void) {
   uint64_t last = 0;
   while (s.count < PINS) {
     uint64_t number = 0;
-    is("a commit comes", PDT_OK, pdt_wait(s.store, last + 100, 60000, &number));
+    is("a commit comes", PDT_OK, pdt_wait(s.store, last + 100, 1000 * LIMIT, &number));
     pdt_pinned *pin = pinned(s.store);
     is("the newest at least", 1, pdt_pinned_commits(pin) >= number);
     last = pdt_pinned_commits(pin);
     pthread_mutex_lock(&s.lock);
     s.pins[s.count++] = pin;
+    long scans = s.scans;
     pthread_mutex_unlock(&s.lock);
-    nanosleep(&(struct timespec){0, 200000000}, NULL);
+    pass(200);
+    UNTIL(s.scans >= scans + 5 * READERS);
   }
+  UNTIL(packs_of(s.store) > 0);
   pthread_mutex_lock(&s.lock);
   s.has_ended = true;
   pthread_mutex_unlock(&s.lock);
   for (int i = 0; i < READERS + WRITERS; i++) pthread_join(threads[i], NULL);
   is("each commit counts once", s.commits, (long long)commits_of(s.store));
-  pdt_counts counts = {.size = sizeof counts};
-  is("count", PDT_OK, pdt_count(s.store, &counts));
-  is("folds packed under them", 1, counts.packs > 0);
-  is("scans", 1, s.scans >= 10 * READERS);
+  is("folds packed under them", 1, packs_of(s.store) > 0);
+  is("scans", 1, s.scans >= 5 * READERS * (PINS - 1));
   pdt_txn *txn = begun(s.store);
   is("the newest sum", sum_at((uint64_t)s.commits), sum_of(txn, false));
   pdt_abort(txn);

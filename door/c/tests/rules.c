@@ -1,6 +1,7 @@
 /* Two threads for each rule of the table of threads in docs/ENGINES.md, so that a sanitizer of threads sees each: what one does
    while the other goes on, and that it sees what it must. */
-#define _POSIX_C_SOURCE 200809L
+#define _DEFAULT_SOURCE
+#include "events.h"
 #include <pdt.h>
 #include <pthread.h>
 #include <stdio.h>
@@ -8,8 +9,6 @@
 #include <string.h>
 #include <sys/stat.h>
 #include <sys/wait.h>
-#include <time.h>
-#include <unistd.h>
 
 enum { ROWS = 3000, ROUNDS = 200 };
 static pthread_mutex_t failing = PTHREAD_MUTEX_INITIALIZER;
@@ -158,9 +157,15 @@ static void *asks_sizes(void *with) {
   pthread_mutex_unlock(&s->lock);
   return NULL;
 }
+static uint64_t waits_of(pdt_store *store) {
+  pdt_counts counts = {.size = sizeof counts};
+  is("count", PDT_OK, pdt_count(store, &counts));
+  return counts.waits;
+}
 static void installs(void *with) {
   shared *s = with;
-  nanosleep(&(struct timespec){0, 30000000}, NULL);
+  UNTIL(waits_of(s->store) > 0);
+  is("it finds the lock taken", 1, (long long)waits_of(s->store));
   pthread_mutex_lock(&s->lock);
   is("it waits", 0, s->has_ended);
   pthread_mutex_unlock(&s->lock);

@@ -3,6 +3,8 @@
    quickest scan, and how long the begins and the commits of both took, each tenth. It fails where the memory has grown by more than 4 MB
    since the third tenth, or the folder has more than its bound. The times are for people to read. Reads /proc, as Linux has it. */
 #define _XOPEN_SOURCE 700
+#define _DEFAULT_SOURCE
+#include "events.h"
 #include "tails.h"
 #include <ftw.h>
 #include <pdt.h>
@@ -148,7 +150,9 @@ int main(int argc, char **argv) {
   stops = true;
   pthread_join(scanner, NULL);
   pdt_database_counts counts = {.size = sizeof counts};
-  if (fails("count", pdt_database_count(database, &counts))) return 1;
+  bool is_bad = false;
+  UNTIL((is_bad = fails("count", pdt_database_count(database, &counts))) || counts.images); /* what is due is made soon */
+  if (is_bad) return 1;
   printf("%llu folds, %llu images, %llu faults\n", (unsigned long long)counts.folds, (unsigned long long)counts.images,
          (unsigned long long)counts.faults);
   if (!counts.images || counts.faults) right = false;

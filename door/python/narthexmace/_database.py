@@ -108,7 +108,8 @@ def _options_of(
 
 def _formats_of(formats: Formats) -> Any:
     """Formats for C."""
-    return (ctypes.c_char_p * max(len(formats), 1))(*(format_ and format_.encode() for format_ in formats))
+    given = [None if format_ is None else format_.encode() for format_ in formats]
+    return (ctypes.c_char_p * max(len(given), 1))(*given)
 
 
 class Database(Single):

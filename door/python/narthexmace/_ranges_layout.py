@@ -5,7 +5,7 @@ import json
 import os
 from bisect import bisect_right
 from functools import lru_cache
-from typing import Any, Callable, Dict, Mapping, NamedTuple, Optional, Sequence, Tuple, Union
+from typing import Any, Callable, Dict, Mapping, NamedTuple, Optional, Sequence, Tuple, Union, cast
 
 from ._cells import BOOL, INT, TEXT, Cell, Column, Key, Row, bytes_of, number_of, truth_of
 from ._declared import Declared, declared_as
@@ -80,8 +80,8 @@ def kept(cells: Sequence[Cell], kinds: Kinds) -> Row:
 
 
 def shown(cells: Sequence[Cell], kinds: Kinds) -> Row:
-    """Cells that a table keeps as what they stand for."""
-    return tuple(cell if kind is None else kind.value(cell) for cell, kind in zip(cells, kinds))
+    """Cells that a table keeps as what they stand for. Those of declared columns are ints."""
+    return tuple(cell if kind is None else kind.value(cast(int, cell)) for cell, kind in zip(cells, kinds))
 
 
 _CELLS: Dict[str, Callable[[Any], Cell]] = {INT: number_of, TEXT: lambda text: bytes_of(text).decode(), BOOL: truth_of}

@@ -301,6 +301,7 @@ def _effects_of(txn: Transaction, key_columns: int) -> Effects:
         elif entry.kind == INSERT:
             effects.append([INSERT, kept(entry.values, kinds)])
         else:
+            assert entry.column is not None  # each modify has one
             key, kind = kept(txn[entry.rid][:key_columns], kinds), kinds[txn._shaping.column(entry.column)]
             effects.append([MODIFY, key, entry.column, *kept(entry.values[:1], (kind,))])
     return sorted(effects, key=lambda effect: (DELETE, INSERT, MODIFY).index(effect[0]))

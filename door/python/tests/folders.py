@@ -9,6 +9,8 @@ from typing import Any, Callable, Type
 
 import narthexmace
 
+from . import LIMIT
+
 HERE = Path(__file__).parents[1]
 ITEMS = "id:int:key,name:text,qty:int\n"
 
@@ -51,7 +53,7 @@ class Case(unittest.TestCase):
     def told(self, program: str, *words: object) -> str:
         """What a program prints, which has to end well."""
         child = self.started(program, *words)
-        told = child.communicate(timeout=60)[0]
+        told = child.communicate(timeout=LIMIT)[0]
         self.assertEqual(child.returncode, 0, told)
         return told
 

@@ -13,6 +13,7 @@ from unittest import mock
 import narthexmace
 from narthexmace import _library
 
+from . import LIMIT
 from .drawing import pandas
 from .folders import HERE, ITEMS, Case, insert, rows
 
@@ -169,7 +170,7 @@ class Locks(Case):
         assert child.stdout
         self.assertEqual(child.stdout.readline(), "open\n")
         self.refused(narthexmace.Locked, narthexmace.connect, self.folder)
-        child.communicate(timeout=60)
+        child.communicate(timeout=LIMIT)
         self.assertEqual(child.returncode, 0)
         self.connect().close()
 
@@ -331,13 +332,13 @@ class Tables(Case):
 
             def slow(*_: Any) -> int:
                 entered.set()
-                leave.wait(30)
+                leave.wait(LIMIT)
                 return 0
 
             with mock.patch.object(_library.library, "pdt_fold", slow):
                 thread = threading.Thread(target=items.fold)
                 thread.start()
-                self.assertTrue(entered.wait(30))
+                self.assertTrue(entered.wait(LIMIT))
                 try:
                     self.refused(narthexmace.Misuse, db.drop, "items")
                     self.refused(narthexmace.Misuse, db.close)

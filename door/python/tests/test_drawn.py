@@ -15,7 +15,7 @@ from typing import Any, Callable, Dict, List, Tuple
 
 import narthexmace
 
-from . import arrow, drawing, model
+from . import LIMIT, arrow, drawing, model
 from .drawing import READS, WRITES, Calls, Client, Pair, Row, Undone, numpy, pandas
 from .watching import Watch, wanted
 
@@ -253,7 +253,7 @@ class Run(Calls):
         newest = len(self.model.commits)
         got = [self.store.wait(newest, seconds=0), self.store.wait(after=newest + 5, seconds=0.001)]
         if newest:
-            got.append(self.store.wait(self.draw.randrange(newest), 60))
+            got.append(self.store.wait(self.draw.randrange(newest), LIMIT))
         refused = [self.refuses(narthexmace.Misuse, lambda: self.store.wait(-1, 60)),
                    self.refuses(narthexmace.Misuse, lambda: self.store.changes(-1))]  # fmt: skip
         return (got, refused), ([None, None, *([newest] if newest else [])], [True, True])
@@ -426,7 +426,7 @@ class Run(Calls):
         for thread in threads:
             thread.start()
         for thread in threads:
-            thread.join(60)
+            thread.join(LIMIT)
         self.folded = len(self.model.commits)
         return (faults, [got for got, _ in answers]), ([], [due for _, due in answers])
 

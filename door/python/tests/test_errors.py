@@ -17,6 +17,8 @@ from unittest import mock
 import narthexmace
 from narthexmace import _handles, _library, _transaction
 
+from . import LIMIT
+
 TABLE = "id:int:key,name:text,qty:int,new:bool\n10,Ann,7,true\n20,Bob,2,false\n"
 ROWS = [(10, "Ann", 7, True), (20, "Bob", 2, False)]
 
@@ -569,13 +571,13 @@ class Ends(Case):
 
         def slow(*_: Any) -> int:
             entered.set()
-            leave.wait(30)
+            leave.wait(LIMIT)
             return 0
 
         with mock.patch.object(_transaction.library, "pdt_delete", slow):
             thread = threading.Thread(target=lambda: told.append(txn.delete(10)))
             thread.start()
-            self.assertTrue(entered.wait(30))
+            self.assertTrue(entered.wait(LIMIT))
             for call in [*self.calls(txn), txn.abort]:
                 self.refused(narthexmace.Misuse, call)
             leave.set()
@@ -589,13 +591,13 @@ class Ends(Case):
 
         def slow(*_: Any) -> int:
             entered.set()
-            leave.wait(30)
+            leave.wait(LIMIT)
             return 0
 
         with mock.patch.object(_handles.library, "pdt_fold", slow):
             thread = threading.Thread(target=self.store.fold)
             thread.start()
-            self.assertTrue(entered.wait(30))
+            self.assertTrue(entered.wait(LIMIT))
             try:
                 check()
             finally:

@@ -7,6 +7,7 @@ import unittest
 from importlib.util import find_spec
 from pathlib import Path
 
+from . import LIMIT
 from .folders import HERE
 
 EXAMPLES = HERE / "examples"
@@ -20,7 +21,7 @@ class Examples(unittest.TestCase):
             environment = {**os.environ, "PYTHONPATH": str(HERE), "MPLBACKEND": "svg", "MPLCONFIGDIR": folder}
             told = subprocess.run(
                 [sys.executable, EXAMPLES / "versions.py", picture],
-                env=environment, stdout=subprocess.PIPE, text=True, timeout=120, check=True,
+                env=environment, stdout=subprocess.PIPE, text=True, timeout=2 * LIMIT, check=True,
             )  # fmt: skip
             drawn = picture.read_text()
         self.assertEqual(

@@ -7,6 +7,7 @@ import random
 import unittest
 from typing import Dict, List, Tuple
 
+from . import LIMIT
 from .folders import Case, rows
 
 KILLS = int(os.environ.get("NARTHEXMACE_KILLS", "5"))
@@ -61,7 +62,7 @@ class Kills(Case):
         assert child.stdout
         self.assertEqual(child.stdout.readline(), "committed\n")
         child.kill()
-        child.wait(60)
+        child.wait(LIMIT)
         with self.connect() as db:
             self.assertEqual((rows(db["items"]), db.report.commits, db.report.replayed), ([(1, "ink", 7)], 1, 1))
 
@@ -75,7 +76,7 @@ class Kills(Case):
             told = [child.stdout.readline() for _ in range(draw.choice([1, 4, 40, 200]))]
             child.kill()
             told += child.stdout.readlines()
-            child.wait(60)
+            child.wait(LIMIT)
             told = [line for line in told if line.endswith("\n")]  # the last one may be cut short
             with self.subTest(kill=kill, sync=sync, seed=SEED):
                 newest, tables = self.due(told, newest, tables)

@@ -6,7 +6,6 @@ NARTHEXMACE_SEED. With NARTHEXMACE_TELLS it prints how much was moved.
 import itertools
 import os
 import random
-import resource
 import shutil
 import signal
 import subprocess
@@ -16,19 +15,18 @@ import threading
 import time
 import unittest
 import warnings
-from contextlib import suppress
+from contextlib import contextmanager, suppress
 from datetime import date, datetime, timezone
 from decimal import Decimal
 from pathlib import Path
-from typing import Any, Callable, Dict, List, Optional, Set, Tuple, Type
+from typing import Any, Callable, Dict, Iterator, List, Optional, Set, Tuple, Type
 
 import narthexmace
-from narthexmace import Conflict, Duplicate, Exists, Gap, Locked, Missing, Rot, Shape
-from narthexmace import _ranges_errors, _ranges_log, _ranges_owner, _ranges_steps
-from narthexmace._ranges_owner import First, Owner, Status
+from narthexmace import Conflict, Duplicate, Exists, Gap, Locked, Missing, Shape
+from narthexmace import _ranges_log, _ranges_owner, _ranges_steps
 
-from . import test_docs
-from .folders import HERE, Case
+from . import LIMIT, test_docs
+from .folders import HERE
 
 try:
     import distributed
@@ -39,8 +37,8 @@ except ImportError:
 
 KILLS = int(os.environ.get("NARTHEXMACE_KILLS", "3"))
 SEED = int(os.environ.get("NARTHEXMACE_SEED", "1"))
-#: How long a call waits for its ranges, and where one of them is stopped.
-SECONDS, STOPPED = 8.0, 1.5
+#: How long a call waits for its ranges; where workers are killed while others go on, and where one is stopped.
+SECONDS, KILLED, STOPPED = 60.0, 8.0, 1.5
 #: The ranges of the bank, how far apart they begin, and what is in each account.
 PLACES, APART, ACCOUNTS, START = 4, 1_000_000, 50, 100
 
@@ -49,12 +47,12 @@ COORDINATOR = """\
 import os, sys, distributed
 from narthexmace import _ranges_steps
 import narthexmace.dask
-address, folder, step = sys.argv[1:]
+address, folder, step, seconds = sys.argv[1:]
 def hook(reached, place):
     if reached == step:
         os._exit(9)
 client = distributed.Client(address, direct_to_workers=True)
-table = narthexmace.dask.connect(folder, client=client)
+table = narthexmace.dask.connect(folder, client=client, seconds=float(seconds))
 _ranges_steps.hook = hook
 txn = table.begin()
 print(txn.name, flush=True)
@@ -66,213 +64,6 @@ txn.commit()
 needs_dask = unittest.skipIf(distributed is None, "dask isn't there (apt-get install python3-dask python3-distributed)")
 
 
-class Logs(unittest.TestCase):
-    """The decision log alone, which needs no Dask."""
-
-    def setUp(self) -> None:
-        place = tempfile.TemporaryDirectory()
-        self.addCleanup(place.cleanup)
-        self.folder = place.name
-        self.path = Path(place.name, "decisions.log")
-        _ranges_log.Log.make(self.folder)
-
-    def open(self) -> "_ranges_log.Log":
-        log = _ranges_log.Log(self.folder)
-        self.addCleanup(log.close)
-        return log
-
-    def decision(self, number: int) -> "_ranges_log.Decision":
-        parts: Dict[int, Any] = {0: [["set", [number], "sum", -1]], 2: [["insert", [7, "ink\nünd", True]]]}
-        return _ranges_log.Decision(number, f"t{number}", parts)
-
-    def test_a_log_has_what_was_appended_and_counts_epochs(self) -> None:
-        for epoch in (1, 2, 3):
-            log = self.open()
-            self.assertEqual((log.epoch, log.next), (epoch, 2 * epoch - 1))
-            self.assertEqual(log.decisions, [self.decision(number) for number in range(1, 2 * epoch - 1)])
-            for number in (log.next, log.next + 1):
-                log.append(self.decision(number))
-            log.close()
-        log = self.open()
-        log.rewrite([])
-        log.close()
-        self.assertEqual((self.open().next, self.path.read_bytes().count(b"\n")), (7, 1))
-
-    def test_a_last_record_that_is_torn_at_any_byte_is_no_decision(self) -> None:
-        log = self.open()
-        log.append(self.decision(1))
-        before = self.path.stat().st_size
-        log.append(self.decision(2))
-        log.close()
-        content = self.path.read_bytes()
-        for size in range(before, len(content) + 1):
-            for tail in (b"", bytes(len(content) - size), b"\xff" * (len(content) - size)):
-                self.path.write_bytes(content[:size] + tail)
-                log = self.open()
-                log.close()
-                due = 2 if content[:size] + tail == content else 1
-                self.assertEqual([it.number for it in log.decisions], [1, 2][:due], (size, tail))
-
-    def test_a_record_that_is_damaged_before_the_last_one_is_told(self) -> None:
-        log = self.open()
-        for number in (1, 2, 3):
-            log.append(self.decision(number))
-        log.close()
-        content = self.path.read_bytes()
-        last = content[:-1].rindex(b"\n") + 1
-        for place in range(last):
-            damaged = bytearray(content)
-            damaged[place] ^= 1 << place % 8
-            self.path.write_bytes(damaged)
-            with self.subTest(place=place), self.assertRaises(Rot):
-                _ranges_log.Log(self.folder)
-        self.path.write_bytes(b"")
-        self.assertRaises(Gap, _ranges_log.Log, self.folder)
-        self.path.unlink()
-        self.assertRaises(Gap, _ranges_log.Log, self.folder)
-
-    def test_one_process_has_it(self) -> None:
-        log = self.open()
-        self.assertRaises(Locked, _ranges_log.Log, self.folder)
-        log.close()
-        self.open()
-
-    def test_what_does_not_fit_is_no_decision_and_what_cannot_be_synced_is_in_doubt(self) -> None:
-        log = self.open()
-        log.append(self.decision(1))
-        size = self.path.stat().st_size
-        before, soft = signal.signal(signal.SIGXFSZ, signal.SIG_IGN), resource.getrlimit(resource.RLIMIT_FSIZE)
-        resource.setrlimit(resource.RLIMIT_FSIZE, (size + 10, soft[1]))
-        try:
-            with self.assertRaises(_ranges_errors.LogFailed) as caught:
-                log.append(self.decision(2))
-        finally:
-            resource.setrlimit(resource.RLIMIT_FSIZE, soft)
-            signal.signal(signal.SIGXFSZ, before)
-        self.assertEqual((caught.exception.outcome, self.path.stat().st_size), ("not committed", size))
-        log.append(self.decision(3))
-        sync = os.fsync
-        os.fsync = self.fails  # type: ignore[assignment]
-        try:
-            with self.assertRaises(_ranges_errors.LogFailed) as caught:
-                log.append(self.decision(4))
-        finally:
-            os.fsync = sync
-        self.assertEqual(caught.exception.outcome, "in doubt")
-        self.assertRaises(_ranges_errors.LogFailed, log.append, self.decision(5))
-        log.close()
-        self.assertEqual([it.number for it in self.open().decisions], [1, 3, 4])
-
-    def fails(self, file: int) -> None:
-        raise OSError(5, "failed")
-
-    def test_a_long_log_says_so(self) -> None:
-        log = self.open()
-        while not log.is_long:
-            log.append(_ranges_log.Decision(log.next, "t", {0: [["insert", ["x" * 400_000]]]}))
-        self.assertGreater(self.path.stat().st_size, _ranges_log.MOST_BYTES)
-        log.rewrite([])
-        self.assertLess(self.path.stat().st_size, 100)
-        log.append(self.decision(log.next))
-        log.close()
-        self.assertEqual(len(self.open().decisions), 1)
-
-
-#: Opens the database of a range, and has it until it is told to end.
-HOLDER = """\
-import sys, narthexmace
-db = narthexmace.connect(sys.argv[1])
-print("open", flush=True)
-sys.stdin.read()
-db.close()
-"""
-
-
-class Owners(Case):
-    """A range alone, which needs no Dask."""
-
-    def owner(self, first: Optional[First] = None, seconds: float = 1.0) -> Owner:
-        owner = Owner(str(self.folder), 0, (1, 1), seconds, first)
-        self.addCleanup(owner.close)
-        return owner
-
-    def made(self) -> Owner:
-        return self.owner(First({"id": [1, 2], "sum": [5, 7]}, ["id"], {"id": "int", "sum": "int"}, {}, {}))
-
-    def rows(self, owner: Owner, version: int) -> List[Any]:
-        return list(owner.read(version, list))
-
-    def test_what_is_installed_again_is_done_once(self) -> None:
-        owner, effects = self.made(), [["modify", [1], "sum", 6], ["insert", [3, 0]]]
-        before = owner.status((1, 1)).version
-        version = owner.install((1, 1), 3, "3-a", effects)
-        for _ in range(2):
-            self.assertEqual(owner.install((1, 1), 3, "3-a", effects), version)
-            self.assertEqual(owner.install((1, 1), 2, "2-b", [["delete", [2]]]), version)
-            self.assertEqual(owner.status((1, 1)), Status(3, "3-a", version))
-            self.assertEqual(self.rows(owner, version), [(1, 6), (2, 7), (3, 0)])
-            self.assertEqual((owner.has("3-a"), owner.has("2-b")), (True, False))
-            owner.close()
-            owner = self.owner()
-        self.refused(_ranges_errors.Gone, owner.read, before, list)
-        self.assertEqual(owner.install((1, 1), 4, "4-c", [["delete", [1]], ["insert", [1, 9]]]), version + 1)
-        self.assertEqual(self.rows(owner, version), [(1, 6), (2, 7), (3, 0)])
-        self.assertEqual(self.rows(owner, version + 1), [(1, 9), (2, 7), (3, 0)])
-
-    def test_a_vote_is_what_a_transaction_writes_and_changes_nothing(self) -> None:
-        owner = self.made()
-        version = owner.status((1, 1)).version
-        for name, key in (("1-a", 1), ("1-b", 1), ("1-c", 2)):
-            owner.do(name, version, "set", [key, "sum", 9])
-        owner.do("1-a", None, "delete", [2])
-        owner.do("1-a", None, "insert", [(2, 8)])
-        owner.do("1-a", None, "insert", [(3, 8)])
-        owner.do("1-a", None, "delete", [3])
-        votes = owner.prepare((1, 1), "1-a")
-        self.assertEqual(votes, [["delete", (2,)], ["insert", (2, 8)], ["modify", (1,), "sum", 9]])
-        self.assertEqual(owner.status((1, 1)).version, version)
-        self.refused(_ranges_errors.Gone, owner.prepare, (1, 1), "1-a")
-        owner.install((1, 1), 1, "1-a", votes)
-        for name in ("1-b", "1-c"):
-            self.refused(Conflict, owner.prepare, (1, 1), name)
-        owner.do("2-d", version + 1, "set", [1, "sum", 10])
-        self.assertEqual(owner.commit((1, 1), 2, "2-d"), version + 2)
-        self.assertEqual(self.rows(owner, version + 2), [(1, 10), (2, 8)])
-
-    def test_words_of_an_older_term_are_refused(self) -> None:
-        owner = self.made()
-        version = owner.status((2, 5)).version
-        owner.do("1-a", version, "set", [1, "sum", 9])
-        for term in ((2, 4), (1, 9)):
-            self.refused(_ranges_errors.Gone, owner.status, term)
-            self.refused(_ranges_errors.Gone, owner.prepare, term, "1-a")
-            self.refused(_ranges_errors.Gone, owner.commit, term, 1, "1-a")
-            self.refused(_ranges_errors.Gone, owner.install, term, 1, "1-a", [["delete", [1]]])
-        self.assertEqual(owner.commit((2, 5), 1, "1-a"), version + 1)
-        owner.close()
-        self.refused(_ranges_errors.Closed, owner.status, (3, 1))
-
-    def test_it_waits_for_the_lock_of_who_is_ending(self) -> None:
-        self.made().close()
-        child = self.started(HOLDER)
-        assert child.stdout and child.stdin
-        self.assertEqual(child.stdout.readline(), "open\n")
-        self.refused(Locked, Owner, str(self.folder), 0, (1, 1), 0.1)
-        threading.Timer(0.5, child.kill).start()
-        start = time.monotonic()
-        owner = self.owner(seconds=20.0)
-        self.assertEqual(len(self.rows(owner, owner.status((1, 1)).version)), 2)
-        self.assertGreater(time.monotonic() - start, 0.3)
-
-
-class Imports(unittest.TestCase):
-    def test_without_dask_the_import_says_what_to_install(self) -> None:
-        program = "import sys; sys.modules['dask'] = None\nimport narthexmace.dask"
-        environment = {**os.environ, "PYTHONPATH": str(HERE)}
-        told = subprocess.run([sys.executable, "-c", program], env=environment, stderr=subprocess.PIPE, text=True)
-        self.assertIn("apt-get install python3-dask python3-distributed python3-pandas", told.stderr)
-
-
 @needs_dask
 class Document(unittest.TestCase):
     def test_the_example_of_the_document(self) -> None:
@@ -282,29 +73,6 @@ class Document(unittest.TestCase):
         with warnings.catch_warnings():
             warnings.simplefilter("ignore", DeprecationWarning)  # Dask's own
             self.assertGreater(test_docs.Documents.run_examples(self, "docs/RANGES.md", blocks[0]), 5)  # type: ignore
-
-
-class Decides(unittest.TestCase):
-    """``Transaction._decide``, by which a range votes."""
-
-    def test_it_tells_what_a_commit_would_and_commits_nothing(self) -> None:
-        with narthexmace.open({"id": [1, 2], "sum": [5, 7]}, key="id", row_limit=3) as store:
-            first, second, full, other = (store.begin() for _ in range(4))
-            first.set(1, "sum", 6)
-            second.set(1, "sum", 8)
-            full.insert((3, 0))
-            other.insert((4, 0))
-            for txn in (first, second, full, other, first):
-                txn._decide()
-            self.assertEqual((store.sizes().commits, first.get(1), first.is_open), (0, (1, 6), True))
-            first.commit()
-            self.assertRaises(Conflict, second._decide)
-            self.assertRaises(narthexmace.Misuse, second.get, 1)
-            full.commit()
-            self.assertRaises(narthexmace.Full, other._decide)
-            self.assertEqual((other.is_open, store.sizes().commits), (False, 2))
-            with store.begin() as txn:  # no lock is left
-                txn.delete(3)
 
 
 # ---- what is called in a worker
@@ -353,7 +121,7 @@ def cluster_and_client() -> Tuple[Any, Any]:
     """
     if _shared:
         try:
-            _shared[1].wait_for_workers(PLACES + 1, timeout=15)
+            _shared[1].wait_for_workers(PLACES + 1, timeout=30)
         except (TimeoutError, distributed.TimeoutError):
             tearDownModule()
     if not _shared:
@@ -381,12 +149,12 @@ class Clusters(unittest.TestCase):
         self.cluster, self.client = cluster_and_client()
 
     def create(self, table: Any, **words: Any) -> "ranges.Ranges":
-        made = ranges.create(self.folder, table, **{"client": self.client, "seconds": SECONDS, **words})
+        made = ranges.create(self.folder, table, **{"client": self.client, "seconds": SECONDS, "opening": LIMIT, **words})
         self.addCleanup(made.close)
         return made
 
     def connect(self, folder: str = "") -> "ranges.Ranges":
-        table = ranges.connect(folder or self.folder, client=self.client, seconds=SECONDS)
+        table = ranges.connect(folder or self.folder, client=self.client, seconds=SECONDS, opening=LIMIT)
         self.addCleanup(table.close)
         return table
 
@@ -402,6 +170,16 @@ class Clusters(unittest.TestCase):
     def process(self, table: "ranges.Ranges", place: int) -> int:
         """The process of a range's worker."""
         return int(table.map(process_of)[place])
+
+    def until_answered(self, call: Callable[[], Any]) -> Any:
+        """What a call answers once its range is reached."""
+        end = time.monotonic() + LIMIT
+        while True:
+            try:
+                return call()
+            except (ranges.TimedOut, ranges.Gone):
+                if time.monotonic() > end:
+                    raise
 
 
 class Reads(Clusters):
@@ -527,12 +305,12 @@ class Reads(Clusters):
         self.assertEqual(groups.to_dict(), {1: 4000})
         parts = self.client.persist(table.frame())
         for part in distributed.futures_of(parts):
-            part.result(timeout=60)
+            part.result(timeout=LIMIT)
         held = self.client.who_has(parts).values()
         self.assertEqual(sorted(it for those in held for it in those), sorted(table.workers))
         first, elsewhere = table._coordinator.ranges[0], [table.workers[1]]
         given = (first.key, first.address, first.task.key, table.vector[0], ["sum"], "id")
-        fetched = self.client.submit(fetches, *given, workers=elsewhere, pure=False).result(timeout=60)
+        fetched = self.client.submit(fetches, *given, workers=elsewhere, pure=False).result(timeout=LIMIT)
         self.assertEqual((len(fetched), list(fetched.index[:2])), (1000, [0, 1]))
         old.close()
         self.refused(ranges.Gone, self.rows, table, old)
@@ -667,8 +445,8 @@ class Commits(Clusters):
                 shutil.rmtree(self.folder)
                 shutil.copytree(made, self.folder)
                 child = subprocess.run(
-                    [sys.executable, "-c", COORDINATOR, self.cluster.scheduler_address, self.folder, step],
-                    stdout=subprocess.PIPE, text=True, timeout=60,
+                    [sys.executable, "-c", COORDINATOR, self.cluster.scheduler_address, self.folder, step, str(SECONDS)],
+                    stdout=subprocess.PIPE, text=True, timeout=LIMIT,
                 )  # fmt: skip
                 self.assertEqual(child.returncode, 9)
                 name = child.stdout.strip()
@@ -704,26 +482,42 @@ class Commits(Clusters):
     def stops(self, deadline: Any) -> None:
         raise KeyboardInterrupt
 
+    @contextmanager
+    def stopped(self, table: "ranges.Ranges", place: int, then: int = signal.SIGCONT) -> Iterator[None]:
+        """A range's worker is stopped, and goes on in the end, or is killed."""
+        process = self.process(table, place)
+        os.kill(process, signal.SIGSTOP)
+        try:
+            yield
+        finally:
+            os.kill(process, then)
+
+    @contextmanager
+    def waits_for(self, table: "ranges.Ranges", seconds: float) -> Iterator[None]:
+        """Calls wait for so long, and not for as long as others."""
+        table._coordinator.seconds, start = seconds, time.monotonic()
+        yield
+        table._coordinator.seconds = SECONDS
+        self.assertLess(time.monotonic() - start, SECONDS / 2)
+
     def test_a_worker_that_is_stopped_is_told_in_time(self) -> None:
         table = self.bank()
-        process, table._coordinator.seconds = self.process(table, 2), STOPPED
         over, alone = table.begin(), table.begin()
         over.set(0, "sum", 99)
         over.set(20, "sum", 1)
         alone.set(20, "sum", 5)
-        os.kill(process, signal.SIGSTOP)
-        try:
+        with self.stopped(table, 2):
             start = time.monotonic()
-            self.refused(ranges.TimedOut, table.get, 20)
-            self.assertLess(time.monotonic() - start, STOPPED + 1)
+            with self.waits_for(table, STOPPED):
+                self.refused(ranges.TimedOut, table.get, 20)
+            self.assertGreaterEqual(time.monotonic() - start, STOPPED)
             for txn in (alone, over):  # the range is suspect, and it isn't asked
-                self.assertEqual(self.refused(ranges.TimedOut, txn.commit).outcome, "not committed")
+                with self.waits_for(table, STOPPED):
+                    self.assertEqual(self.refused(ranges.TimedOut, txn.commit).outcome, "not committed")
             self.assertEqual(table.get(0), (0, 100))
             with table.begin() as txn:  # other ranges go on
                 txn.set(0, "sum", 50)
                 txn.set(10, "sum", 50)
-        finally:
-            os.kill(process, signal.SIGCONT)
         self.assertEqual(self.until_answered(lambda: table.get(20)), (20, 0))
         with table.begin() as txn:
             txn.set(20, "sum", 3)
@@ -731,20 +525,18 @@ class Commits(Clusters):
 
     def test_a_commit_whose_answer_does_not_come_is_in_doubt_until_its_range_is_reached(self) -> None:
         table = self.bank()
-        for place, key in ((1, 10), (3, 30)):
-            table._coordinator.seconds = SECONDS
-            process, txn = self.process(table, place), table.begin()
+        for place, key, then in ((1, 10, signal.SIGCONT), (3, 30, signal.SIGKILL)):
+            txn = table.begin()
             txn.set(key, "sum", 5)
-            table._coordinator.seconds = STOPPED
-            os.kill(process, signal.SIGSTOP)
-            try:
-                self.assertEqual(self.refused(ranges.TimedOut, txn.commit).outcome, "in doubt")
-                self.assertEqual(table.outcome(txn.name), "in doubt")
-                with self.assertRaises(ranges.TimedOut) as caught, table.begin() as other:
-                    other.set(0, "sum", 1)
-                self.assertEqual(caught.exception.outcome, "not committed")
-            finally:
-                os.kill(process, signal.SIGKILL if place == 3 else signal.SIGCONT)
+            with self.stopped(table, place, then):
+                with self.waits_for(table, STOPPED):
+                    self.assertEqual(self.refused(ranges.TimedOut, txn.commit).outcome, "in doubt")
+                with self.waits_for(table, STOPPED):
+                    self.assertEqual(table.outcome(txn.name), "in doubt")
+                other = table.begin()
+                other.set(0, "sum", 1)
+                with self.waits_for(table, STOPPED):
+                    self.assertEqual(self.refused(ranges.TimedOut, other.commit).outcome, "not committed")
             outcome = self.until_answered(lambda: self.known(table, txn.name))
             self.assertEqual(table.get(key), (key, 5 if outcome == "committed" else 0))
 
@@ -754,16 +546,6 @@ class Commits(Clusters):
             raise ranges.TimedOut()
         return outcome
 
-    def until_answered(self, call: Callable[[], Any]) -> Any:
-        """What a call answers once its range is reached."""
-        end = time.monotonic() + 20
-        while True:
-            try:
-                return call()
-            except (ranges.TimedOut, ranges.Gone):
-                if time.monotonic() > end:
-                    raise
-
 
 class Bank(Clusters):
     """Money that moves between four ranges, with a receipt in each of both, while their workers are killed."""
@@ -772,6 +554,7 @@ class Bank(Clusters):
         ids = [place * APART + account for place in range(PLACES) for account in range(ACCOUNTS)]
         columns = {"id": ids, "sum": [START] * len(ids), "memo": [""] * len(ids)}
         self.table = self.create(columns, key="id", bounds=[place * APART for place in range(1, PLACES)])
+        self.table._coordinator.seconds = KILLED
         self.whole, self.stop = START * len(ids), threading.Event()
         self.told: Dict[str, str] = {}  # the outcome of each transfer, by its name
         self.counts = {"moved": 0, "refused": 0, "lost": 0, "sums": 0, "newest": 0}
@@ -784,7 +567,8 @@ class Bank(Clusters):
             thread.start()
         draw, times = random.Random(SEED), []
         for _ in range(KILLS):
-            time.sleep(2.0)
+            moved = self.counts["moved"]
+            self.goes_until(lambda: self.counts["moved"] > moved + 10)
             place = draw.randrange(PLACES)
             with suppress(ranges.RangesError):
                 os.kill(self.process(self.table, place), signal.SIGKILL)
@@ -794,12 +578,10 @@ class Bank(Clusters):
                     self.table.get(place * APART)
                     break
             times.append(time.monotonic() - start)
-        end = time.monotonic() + 60  # on a machine that has much else to do
-        while not self.has_enough() and time.monotonic() < end and not self.stop.is_set():
-            time.sleep(0.5)
+        self.goes_until(self.has_enough)
         self.stop.set()
         for thread in threads:
-            thread.join(60)
+            thread.join(LIMIT)
         if self.failed:
             raise self.failed[0]
         back, wrong = ", ".join(f"{it:.2f}" for it in times), len(self.wrong["newest"])
@@ -809,11 +591,18 @@ class Bank(Clusters):
         self.assertEqual(self.wrong["vector"], [], told)
         self.assertTrue(self.has_enough(), told)
         self.assertTrue(self.wrong["newest"], f"the test can't fail: {told}")
-        self.check(self.rows(self.table))
+        self.table._coordinator.seconds = SECONDS
+        self.check(self.until_answered(lambda: self.rows(self.table)))
         self.table.close()
         with self.connect() as table:
             self.check(self.rows(table))
             self.assertEqual(table.outcome(next(iter(self.told))), self.told[next(iter(self.told))])
+
+    def goes_until(self, holds: Callable[[], bool]) -> None:
+        """Waits until something holds of the threads, or one of them has failed."""
+        end = time.monotonic() + LIMIT
+        while not holds() and time.monotonic() < end and not self.stop.is_set():
+            time.sleep(0.05)
 
     def has_enough(self) -> bool:
         """Whether so much was moved and read that it says something."""

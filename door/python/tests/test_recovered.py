@@ -12,6 +12,7 @@ from typing import Dict, List, Tuple
 
 import narthexmace
 
+from . import LIMIT
 from .folders import HERE, Case, rows
 
 PROGRAM = HERE.parents[1] / "crates/pdt/out/pdt"
@@ -63,7 +64,7 @@ class Recovered(Case):
 
     def answer(self, *words: str) -> Tuple[int, str, str]:
         """What the program answers of the folder: its status, what it prints, and what it tells."""
-        ran = subprocess.run([PROGRAM, "recover", self.folder, *words], capture_output=True, timeout=60, check=False)
+        ran = subprocess.run([PROGRAM, "recover", self.folder, *words], capture_output=True, timeout=LIMIT, check=False)
         return ran.returncode, ran.stdout.decode(), ran.stderr.decode()
 
     def files(self) -> Dict[str, bytes]:
@@ -81,7 +82,7 @@ class Recovered(Case):
             child.stdout.readline()
         if killed_after:
             child.kill()
-        child.communicate(timeout=60)
+        child.communicate(timeout=LIMIT)
         self.assertEqual(child.returncode, -9 if killed_after else 0)
 
     def check(self) -> None:

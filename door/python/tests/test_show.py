@@ -16,6 +16,8 @@ from unittest import mock
 import narthexmace
 from narthexmace import __main__ as show
 
+from . import LIMIT
+
 EXAMPLES = Path(__file__).parents[3] / "examples"
 # calls that show has not, and a cut, whose count the door doesn't tell
 UNLIKE = re.compile(rb",(checkpoint|cut)\b")
@@ -172,7 +174,7 @@ class Examples(unittest.TestCase):
 
 class Pictures(unittest.TestCase):
     def shown(self, *words: str) -> Tuple[int, str, str]:
-        told = subprocess.run([sys.executable, "-m", "narthexmace", *words], capture_output=True, text=True, timeout=60)
+        told = subprocess.run([sys.executable, "-m", "narthexmace", *words], capture_output=True, text=True, timeout=LIMIT)
         return told.returncode, told.stdout, told.stderr
 
     def files(self, folder: str, **texts: str) -> List[str]:

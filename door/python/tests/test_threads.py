@@ -5,6 +5,8 @@ from typing import List
 
 import narthexmace
 
+from . import LIMIT
+
 THREADS, ADDS, ROWS = 8, 250, 10
 
 
@@ -28,7 +30,7 @@ class Threads(unittest.TestCase):
 
         def adds(client: int) -> None:
             try:
-                start.wait(30)
+                start.wait(LIMIT)
                 for i in range(ADDS):
                     conflicts.append(add(store, (7 * i + client) % ROWS))
             except BaseException as fault:
@@ -37,7 +39,7 @@ class Threads(unittest.TestCase):
         def keeps() -> None:
             """Folds, cuts and reads meanwhile: each read sees whole transactions."""
             try:
-                start.wait(30)
+                start.wait(LIMIT)
                 while not stop.is_set():
                     store.fold()
                     with store.read() as table:
@@ -53,11 +55,11 @@ class Threads(unittest.TestCase):
         for thread in [*threads, keeper]:
             thread.start()
         for client, thread in enumerate(threads):
-            thread.join(120)
+            thread.join(LIMIT)
             for i in range(ADDS):
                 wanted[(7 * i + client) % ROWS] += 1
         stop.set()
-        keeper.join(30)
+        keeper.join(LIMIT)
         self.assertEqual(faults, [])
         with store:
             sizes = store.sizes()
@@ -86,7 +88,7 @@ class Threads(unittest.TestCase):
         for thread in threads:
             thread.start()
         for thread in threads:
-            thread.join(60)
+            thread.join(LIMIT)
         self.assertEqual(faults, [])
         with store, store.read() as table:
             self.assertEqual([row[1] for row in table], [key % 8 + 1 for key in range(2000)])

@@ -17,7 +17,7 @@ from narthexmace import Conflict, Entry, Lent, Misuse, NotKept, Shape, TooOld
 from narthexmace._handles import StoreHandle
 from narthexmace._library import library
 
-from . import model
+from . import LIMIT, model
 
 HERE = Path(__file__)
 TABLE = "id:int:key,name:text,qty:int,new:bool\n10,Ann,7,true\n20,Bob,2,false\n"
@@ -52,8 +52,8 @@ class Case(unittest.TestCase):
         for thread in threads:
             thread.start()
         for thread in threads:
-            thread.join(60)
-        self.assertEqual(faults, [])
+            thread.join(LIMIT)
+        self.assertEqual((faults, [thread for thread in threads if thread.is_alive()]), ([], []))
 
 
 class Pins(Case):
@@ -133,8 +133,9 @@ class Pins(Case):
             begun = threading.Barrier(4)
 
             def reads() -> None:
-                begun.wait(30)
-                for _ in range(10_000):
+                begun.wait(LIMIT)
+                end = time.monotonic() + LIMIT
+                while time.monotonic() < end:
                     try:
                         with pin.read() as table:
                             assert len(table) == 2
@@ -142,7 +143,7 @@ class Pins(Case):
                         return
                 raise AssertionError("the pin is never closed")
 
-            self.together(reads, reads, reads, lambda: (begun.wait(30), pin.close()))
+            self.together(reads, reads, reads, lambda: (begun.wait(LIMIT), pin.close()))
         self.assertEqual((self.store.counts().pins, self.store.sizes().open_transactions), (0, 0))
 
     def test_a_pin_that_is_closed_within_a_begin_stays_for_that(self) -> None:
@@ -365,33 +366,47 @@ class Waits(Case):
         self.assertGreaterEqual(time.monotonic() - begun, 0.25)
         self.put(1)
         self.put(2)
-        self.assertEqual((self.store.wait(0, 60), self.store.wait(1, float("inf"))), (2, 2))
+        self.assertEqual((self.store.wait(0, LIMIT), self.store.wait(1, float("inf"))), (2, 2))
         self.assertRaises(Misuse, self.store.wait, -1, 1)
+
+    def waiting(self, tell: Callable[[], Any]) -> Any:
+        """Tells each time that a thread is about to wait in C."""
+        wait = library.pdt_wait
+        return mock.patch.object(library, "pdt_wait", lambda *given: (tell(), wait(*given))[1])
 
     def test_who_waits_is_woken(self) -> None:
         numbers: List[Any] = []
-        follow = [lambda: numbers.append(self.store.wait(0, 60))] * 3
-        begun = time.monotonic()
+        follow = [lambda: numbers.append(self.store.wait(0, LIMIT))] * 3
+        waits, begun = threading.Semaphore(0), time.monotonic()
+
+        def comes(count: int) -> None:
+            for _ in range(count):
+                self.assertTrue(waits.acquire(timeout=LIMIT))
 
         def commit() -> None:
-            time.sleep(0.3)
-            self.store.begin().commit()  # of nothing: it wakes nobody
-            time.sleep(0.2)
+            comes(3)
+            self.store.begin().commit()  # of nothing: it wakes nobody, and all wait again
+            comes(6)
+            self.assertEqual(numbers, [])
             self.put(1)
 
-        self.together(*follow, commit)
+        with self.waiting(waits.release):
+            self.together(*follow, commit)
         self.assertEqual(numbers, [1] * 3)
-        self.assertTrue(0.45 < time.monotonic() - begun < 20)
+        self.assertLess(time.monotonic() - begun, LIMIT / 2)
 
     def test_a_store_is_not_closed_under_a_wait(self) -> None:
+        waits = threading.Event()
+
         def close() -> None:
-            time.sleep(0.1)
+            self.assertTrue(waits.wait(LIMIT))
             self.assertRaisesRegex(Misuse, "another thread is in a call", self.store.close)
             self.put(1)
 
-        self.together(lambda: self.store.wait(0, 60), close)
+        with self.waiting(waits.set):
+            self.together(lambda: self.store.wait(0, LIMIT), close)
         self.store.close()
-        self.assertRaises(Misuse, self.store.wait, 0, 60)
+        self.assertRaises(Misuse, self.store.wait, 0, LIMIT)
 
     def test_an_interrupt_ends_a_wait(self) -> None:
         def interrupt(*_: object) -> None:
@@ -400,9 +415,10 @@ class Waits(Case):
         before = signal.signal(signal.SIGALRM, interrupt)
         self.addCleanup(signal.signal, signal.SIGALRM, before)
         begun = time.monotonic()
-        signal.setitimer(signal.ITIMER_REAL, 0.2)
-        self.assertRaises(KeyboardInterrupt, self.store.wait, 0, 60)
-        self.assertLess(time.monotonic() - begun, 20)
+        timers = iter([0.2])  # the first wait begins it
+        with self.waiting(lambda: [signal.setitimer(signal.ITIMER_REAL, seconds) for seconds in timers]):
+            self.assertRaises(KeyboardInterrupt, self.store.wait, 0, LIMIT)
+        self.assertLess(time.monotonic() - begun, LIMIT / 2)
         self.store.close()
 
     def test_a_follower_has_each_commit_once(self) -> None:
@@ -413,7 +429,7 @@ class Waits(Case):
             number, rows = 0, [(10, "Ann", 7, True), (20, "Bob", 2, False)]
             names = ["id", "name", "qty", "new"]
             while number < total:
-                if self.store.wait(number, 10) is None:
+                if self.store.wait(number, LIMIT) is None:
                     raise AssertionError("no commit came")
                 try:
                     for number, entries in self.store.changes(after=number):
@@ -487,14 +503,17 @@ class Counts(Case):
                 self.assertEqual(prepare(at, None), 0)
                 held.set()
                 try:
-                    self.assertTrue(begun.wait(30))
+                    self.assertTrue(begun.wait(LIMIT))
+                    end = time.monotonic() + LIMIT
+                    while self.store.counts().waits < 2 and time.monotonic() < end:
+                        time.sleep(0.001)
                     time.sleep(0.3)
                 finally:
                     self.assertEqual(give_up(at), 0)
             txn.abort()
 
         def begin() -> None:
-            self.assertTrue(held.wait(30))
+            self.assertTrue(held.wait(LIMIT))
             with self.store.pin() as pin, self.store.begin() as txn, self.store.read() as table, pin.read() as pinned:
                 txn.set(10, "qty", 2)
                 self.assertEqual((table[0], txn.get(10)[2], pin.number), (pinned[0], 2, 0))
@@ -503,7 +522,7 @@ class Counts(Case):
             begun.set()
 
         def waits() -> None:
-            self.assertTrue(begun.wait(30))
+            self.assertTrue(begun.wait(LIMIT))
             self.store.fold()
 
         self.together(hold, begin, waits, waits)

@@ -8,6 +8,7 @@ from unittest import mock
 import narthexmace
 from narthexmace import _library
 
+from . import LIMIT
 from .folders import Case, rows
 
 NAMES = ("cash", "bank", "shares")
@@ -214,13 +215,13 @@ class Works(Case):
 
         def slow(*_: Any) -> int:
             entered.set()
-            leave.wait(30)
+            leave.wait(LIMIT)
             return 0
 
         with mock.patch.object(_library.library, "pdt_delete", slow):
             thread = threading.Thread(target=cash.delete, args=(1,))
             thread.start()
-            self.assertTrue(entered.wait(30))
+            self.assertTrue(entered.wait(LIMIT))
             for call in (txn.commit, txn.abort, lambda: txn["shares"], lambda: bank.get(1), lambda: bank.delete(1)):
                 self.refused(narthexmace.Misuse, call)
             leave.set()
@@ -283,13 +284,13 @@ class Threads(Case):
             for thread in threads:
                 thread.start()
             while len(seen) < 161:
-                newest = followed.wait(number, 60)
+                newest = followed.wait(number, LIMIT)
                 assert newest is not None and not faults, faults
                 for number, entries in followed.changes(after=number):
                     seen.update(int(entry.values[0]) for entry in entries)
                 self.assertGreaterEqual(number, newest)
             for thread in threads:
-                thread.join(60)
+                thread.join(LIMIT)
             self.assertEqual((faults, seen), ([], {row[0] for row in rows(followed)}))
             db.close()
 
@@ -339,10 +340,10 @@ class Threads(Case):
             for thread in [*movers, *readers]:
                 thread.start()
             for thread in movers:
-                thread.join(120)
+                thread.join(LIMIT)
             stop.set()
             for thread in readers:
-                thread.join(30)
+                thread.join(LIMIT)
             self.assertEqual(faults, [])
             self.assertEqual(sorted(numbers), list(range(before + 1, before + clients * moves + 1)))
             self.assertEqual(db.counts().faults, 0)

@@ -1,8 +1,9 @@
 //! What a store counts.
 use narthexmace::{CommitError, Options, Store, Transaction};
-use std::sync::mpsc;
 use std::thread;
 use std::time::{Duration, Instant};
+
+const LONG: Duration = Duration::from_secs(60);
 
 fn opened(options: &Options) -> Store {
     Store::open("id:int:key,qty:int\n10,1\n20,2\n30,3\n", options).unwrap()
@@ -68,17 +69,14 @@ fn pins_and_what_is_kept_are_counted() {
     assert_eq!((0, None), (store.counts().pins, store.counts().oldest_pin));
 }
 
-/// Holds a commit prepared while another thread commits, which most often finds the lock taken.
+/// Holds a commit prepared until another thread's has found the lock taken, and for 20 ms more.
 fn hold(store: &Store) {
-    let (tells, told) = mpsc::channel();
-    let prepared = setting(store, 10, 5).prepare().unwrap();
+    let (start, prepared) = (Instant::now(), setting(store, 10, 5).prepare().unwrap());
     thread::scope(|threads| {
-        threads.spawn(move || {
-            let txn = setting(store, 20, 6);
-            tells.send(()).unwrap();
-            txn.commit().unwrap();
-        });
-        told.recv().unwrap();
+        threads.spawn(|| setting(store, 20, 6).commit().unwrap());
+        while store.counts().waits == 0 && start.elapsed() < LONG {
+            thread::sleep(Duration::from_millis(1));
+        }
         thread::sleep(Duration::from_millis(20));
         prepared.install();
     });
@@ -88,12 +86,9 @@ fn hold(store: &Store) {
 fn a_thread_that_waits_for_the_lock_is_counted_and_how_long_it_was_held() {
     let (start, store) = (Instant::now(), opened(&Options::default()));
     assert_eq!(0, store.counts().waits);
-    let holds = (1..=100).find(|_| {
-        hold(&store);
-        store.counts().waits > 0
-    });
+    hold(&store);
     let counts = store.counts();
-    assert_eq!((1, holds.map(|holds| 2 * holds)), (counts.waits, Some(counts.commits)));
+    assert_eq!((1, 2), (counts.waits, counts.commits));
     assert!(counts.longest_hold >= Duration::from_millis(20), "{:?}", counts.longest_hold);
     assert!(counts.longest_hold <= start.elapsed(), "{:?}", counts.longest_hold);
 }

@@ -7,6 +7,7 @@ killed: of each commit both have it or neither, and both have each that was answ
 """
 import os
 import random
+import select
 import signal
 import sys
 import tempfile
@@ -17,6 +18,7 @@ from sql import Connection, memory_used
 
 TABLES = ["t", "u"]
 KEYS = [(table, key) for table in TABLES for key in range(8)]
+LIMIT = 120  # seconds, after which what a process should tell doesn't come
 MAKE = "CREATE VIRTUAL TABLE {table} USING pdt(database='{folder}', table='{table}', {words}id INTEGER PRIMARY KEY, a INTEGER, b INTEGER)"
 
 
@@ -216,8 +218,8 @@ def commit_on(folder, told, words):
         os.write(told, number.to_bytes(8, "little"))
 
 
-def killed(folder, draw, words):
-    """A process that commits is killed at some moment; the last number that it told, or 0."""
+def killed(folder, draw, words, commits):
+    """A process is killed at some moment, after its first commit or before; the last number that it told, or 0."""
     read, write = os.pipe()
     child = os.fork()
     if child == 0:
@@ -227,6 +229,8 @@ def killed(folder, draw, words):
         finally:
             os._exit(1)
     os.close(write)
+    if commits:
+        assert select.select([read], [], [], LIMIT)[0], "no commit is told"
     time.sleep(draw.uniform(0.01, 0.25))
     os.kill(child, signal.SIGKILL)
     status = os.waitpid(child, 0)[1]
@@ -236,13 +240,13 @@ def killed(folder, draw, words):
 
 
 def kills(seed):
-    """How many numbers there were."""
+    """How many numbers there were. Every other process is killed once it has committed, however slow the machine is."""
     draw, number = random.Random(seed), 0
     for sync in ("full", "normal"):
         with tempfile.TemporaryDirectory() as folder:
             words, number = f"sync={sync}, ", 0
-            for _ in range(5):
-                told = killed(f"{folder}/shop", draw, words) or number
+            for kill in range(5):
+                told = killed(f"{folder}/shop", draw, words, kill % 2) or number
                 connection = connect(f"{folder}/shop", words)
                 found = connection.run("SELECT (SELECT max(a) FROM t), (SELECT max(a) FROM u)")[0]
                 connection.close()
