@@ -1,7 +1,8 @@
 -- What the last commits changed, among the trees that a manager keeps.
-use Rattle.std.proofs.Common.{◌≡◌, ℕ, zero, suc, ◌+◌, ◌-◌, ◌<◌, ◌≤◌, true, false, cond, Option, Some, None, List, [], ◌∷◌, length, take, sym, ap, ◌∙◌, arith}
+use Rattle.std.proofs.Common.{◌≡◌, ℕ, zero, suc, ◌+◌, ◌-◌, ◌<◌, ◌≤◌, true, false, cond, Option, Some, None, List, [], ◌∷◌, length, take, drop, sym, ap, ◌∙◌, arith}
 use Rattle.std.specs.Prelude.{slice_get}
 use Rattle.std.proofs.lemmas.Bool.Decides.{nat_tests}
+use Rattle.std.proofs.lemmas.List.{drop-drop, length-drop}
 use Rattle.circular_buffer.proofs.Places.{slice_get-drop}
 use Rattle.values.specs.Shape.{Columns}
 use Rattle.model.specs.declared.entry.Entry.{Entry}
@@ -35,7 +36,7 @@ module _ (m : Managed) (l : Lower) (newest : LayeredVersion) (kept : List Tree) 
   is_kept-true : number ≤ newest_number m → newest_number m - number < length kept → is_kept m number ≡ true
   is_kept-true within near =
       let count = kept_count m l newest kept h in
-      let above : m.start.base < number = omega (arith, count, within, near) in
+      let above : m.floor < number = omega (arith, count, within, near) in
       let recent : newest_number m - number < m.start.recent = omega (arith, count, within, near) in
       grind (arith, nat_tests)
 
@@ -52,11 +53,17 @@ module _ (m : Managed) (l : Lower) (newest : LayeredVersion) (kept : List Tree) 
       let trees = commit_trees m.schema m.start.table (commits_in m) in
       let count = length-commit_trees m.schema m.start.table (commits_in m) in
       let few = kept_count m l newest kept h in
-      let at : number - suc m.start.base
-      ≡ (length trees - m.start.recent) + ((length kept - 1) - (newest_number m - number)) =
-      omega (arith, count, few, within, near) in
-      ap (λ (ts : List Tree). slice_get ts ((length kept - 1) - (newest_number m - number))) h.kept_are
-      ∙ slice_get-drop (length trees - m.start.recent) trees ((length kept - 1) - (newest_number m - number)) (number - suc m.start.base) at
+      let left = drop (m.floor - m.start.base) trees in
+      let some = length-drop (m.floor - m.start.base) trees in
+      let based = h.lawful.based in
+      let reached = h.lawful.reached in
+      let first = (m.floor - m.start.base) + (length left - m.start.recent) in
+      let kept_is : kept ≡ drop first trees =
+      h.kept_are ∙ drop-drop (length left - m.start.recent) (m.floor - m.start.base) trees in
+      let at : number - suc m.start.base ≡ first + ((length kept - 1) - (newest_number m - number)) =
+      omega (arith, count, some, few, based, reached, within, near) in
+      ap (λ (ts : List Tree). slice_get ts ((length kept - 1) - (newest_number m - number))) kept_is
+      ∙ slice_get-drop first trees ((length kept - 1) - (newest_number m - number)) (number - suc m.start.base) at
       ∙ sym (ap (λ b. cond b (slice_get trees (number - suc m.start.base)) None) (is_kept-true within near))
 
   pub kept_none_past : newest_number m < number → None ≡ kept_tree m number
@@ -74,9 +81,10 @@ module _ (m : Managed) (l : Lower) (newest : LayeredVersion) (kept : List Tree) 
       merged_rows (rows_at m (number - 1)) tree.entries ≡ rows_at m number
   kept_merges tree within near is =
       let few = kept_count m l newest kept h in
+      let based = h.lawful.based in
       let i = number - suc m.start.base in
-      let before : (number - 1) - m.start.base ≡ i = omega (arith, few, within, near) in
-      let after : suc i ≡ number - m.start.base = omega (arith, few, within, near) in
+      let before : (number - 1) - m.start.base ≡ i = omega (arith, few, based, within, near) in
+      let after : suc i ≡ number - m.start.base = omega (arith, few, based, within, near) in
       let found : slice_get (commit_trees m.schema m.start.table (commits_in m)) i ≡ Some tree =
       sym (ap (λ b. cond b (slice_get (commit_trees m.schema m.start.table (commits_in m)) i) None) (is_kept-true within near)) ∙ is in
       ap (λ n. merged_rows (rows_of (table_with_all m.start.table (take n (commits_in m)))) tree.entries) before

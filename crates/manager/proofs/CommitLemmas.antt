@@ -1,5 +1,5 @@
 -- What a manager holds after a commit.
-use Rattle.std.proofs.Common.{◌≡◌, suc, ◌+◌, ◌<◌, ◌^◌, List, [], ◌∷◌, ◌++◌, length, ℕ, Some, None, refl, sym, ap, ◌∙◌, subst, arith}
+use Rattle.std.proofs.Common.{◌≡◌, suc, ◌+◌, ◌-◌, ◌<◌, ◌≤◌, ◌^◌, List, [], ◌∷◌, ◌++◌, length, drop, ℕ, Some, None, refl, sym, ap, ◌∙◌, subst, arith}
 use Rattle.std.specs.Prelude.{nat_lt}
 use Rattle.std.specs.List.{list_any}
 use Rattle.std.proofs.lemmas.List.{length-append}
@@ -34,7 +34,7 @@ module _ (m : Managed) (l : Lower) (newest : LayeredVersion) (kept : List Tree) 
             ∙ (λ i. record
             { schema = m.schema; table = table_with_all m.start.table (same i); number = m.start.base + length (same i) });
         layers_are = h.layers_are ∙ (λ i. numbered l (m.start.base + length (same i)));
-        kept_are = h.kept_are ∙ (λ i. keep_last m.start.recent (commit_trees m.schema m.start.table (same i)));
+        kept_are = h.kept_are ∙ (λ i. keep_last m.start.recent (drop (m.floor - m.start.base) (commit_trees m.schema m.start.table (same i))));
       }
 
   -- and one that is granted
@@ -50,6 +50,8 @@ module _ (m : Managed) (l : Lower) (newest : LayeredVersion) (kept : List Tree) 
       let one = length-append (commits_in m) (x ∷ []) in
       let number : suc (newest_number m) ≡ m.start.base + length (commits_in m ++ x ∷ []) = omega (arith, one) in
       let table = sym (table_with_all-one m.start.table (commits_in m) x) in
+      let reached = h.lawful.reached in
+      let above : m.floor - m.start.base ≤ length (commits_in m) = omega (arith, reached) in
       record {
         lawful =
             managed_over (with_record m (record_of txn (Committed (suc (newest_number m))))) grant.layers
@@ -62,8 +64,8 @@ module _ (m : Managed) (l : Lower) (newest : LayeredVersion) (kept : List Tree) 
         layers_are = is.layers_are ∙ ap (numbered grant.layers) (number ∙ (λ i. m.start.base + length (more i)));
         kept_are =
             ap (λ (ts : List Tree). keep_last m.start.recent (ts ++ grant.tree ∷ [])) h.kept_are
-            ∙ kept_next m.schema m.start.table (commits_in m) m.start.recent x grant.tree is.tree_is
-            ∙ (λ i. keep_last m.start.recent (commit_trees m.schema m.start.table (more i)));
+            ∙ kept_next m.schema m.start.table (commits_in m) m.start.recent (m.floor - m.start.base) x grant.tree above is.tree_is
+            ∙ (λ i. keep_last m.start.recent (drop (m.floor - m.start.base) (commit_trees m.schema m.start.table (more i))));
       }
 
 module _ (h : Recorded) (made : ℕ) (newest : LayeredVersion) (kept : List Tree)

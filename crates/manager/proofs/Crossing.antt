@@ -48,7 +48,7 @@ history_send =
               (
                 option.the_send (LinkedList.the_row Record.the_row Global.the_row heap.ghosts)
                     (linked.the_send Record.the_row Global.the_row heap.ghosts record_of.the_send global.the_send frees),
-                tt,
+                (search sendable depth 20, tt),
               ),
             ),
           ),

@@ -3,6 +3,7 @@ use Rattle.std.proofs.Common.{◌≡◌, ℕ, zero, suc, ◌+◌, ◌-◌, ◌�
 use Rattle.std.specs.Prelude.{◌==◌, nat_lt}
 use Rattle.std.proofs.lemmas.Bool.Decides.{nat_tests}
 use Rattle.std.proofs.lemmas.List.{length-map}
+use Rattle.circular_buffer.specs.Buffer.{keep_last}
 use Rattle.values.specs.Shape.{Columns, IsSchema}
 use Rattle.values.specs.declared.limits.TheConstants.{MAX_ROWS, MAX_RECENT_COMMITS}
 use Rattle.model.specs.declared.clash.ConflictRule.{ConflictRule}
@@ -115,6 +116,10 @@ pub drop-none : {A : Type 0} (n : ℕ) → drop {A = A} n [] ≡ []
 drop-none zero = refl
 drop-none (suc n) = refl
 
+-- where nothing was committed nothing is kept
+pub none_kept : {A : Type 0} (recent floor : ℕ) → [] ≡ keep_last {X = A} recent (drop floor [])
+none_kept recent floor = subst (λ ts. [] ≡ keep_last recent ts) (sym (drop-none floor)) (sym (drop-none (0 - recent)))
+
 bad_false : (a b c : Bool) (recent limit : ℕ) → (a || b || c || nat_lt MAX_ROWS limit) ≡ false → limit ≤ MAX_ROWS
 bad_false true b c recent limit h = cc
 bad_false false true c recent limit h = cc
@@ -151,9 +156,11 @@ opened_holds number few s limit recent rule h lawful within most =
         legal = tt;
         counted = omega arith;
         few = few;
+        based = omega arith;
+        reached = omega arith;
       };
       folded = alone_folded s h;
       newest_is = version_of-alone s number ∙ (λ i. record { schema = s.schema; table = table_in s; number = none i });
       layers_are = ap (numbered (alone s)) none;
-      kept_are = sym (drop-none (0 - recent));
+      kept_are = none_kept recent (number - number);
     }

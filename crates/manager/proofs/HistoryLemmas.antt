@@ -54,6 +54,13 @@ module _ (schema : Columns) (start : Start) where
   one_at_most commits x (TooOld n) = omega arith
   one_at_most commits x (Full n) = omega arith
 
+  -- a reply takes no commit away
+  pub none_taken : (commits : List Effects) (x : Effects) (reply : CommitReply) → length commits ≤ length (commits_with commits x reply)
+  none_taken commits x (Committed n) = let e = length-append commits (x ∷ []) in omega (arith, e)
+  none_taken commits x (Conflict n) = omega arith
+  none_taken commits x (TooOld n) = omega arith
+  none_taken commits x (Full n) = omega arith
+
   -- no more commits than records
   commits_few : (commits : List Effects) (history : List Record)
       → length (commits_from schema start commits history) ≤ length commits + length history
@@ -176,6 +183,8 @@ managed_over m l h = record {
   legal = h.legal;
   counted = h.counted;
   few = h.few;
+  based = h.based;
+  reached = h.reached;
 }
 
 -- nor is a transaction of it
@@ -215,10 +224,19 @@ module _ (m : Managed) (h : IsManaged m) (txn : Transaction) (k : IsTransaction 
     replied = due ∙ due_as_recorded;
   }
 
+  next_number : newest_number m ≤ newest_number (with_record m (record_of txn reply))
+  next_number =
+      let x = effects_of_record m.schema m.start (commits_in m) (record_of txn reply) in
+      let after = ap (λ (cs : List Effects). length cs) (commits_from-append m.schema m.start [] m.history (record_of txn reply)) in
+      let more = none_taken m.schema m.start (commits_in m) x reply in
+      omega (arith, after, more)
+
   pub next_managed : m.made < 2 ^ 62 → IsManaged (with_record m (record_of txn reply))
   next_managed few =
       let more = length-append m.history (record_of txn reply ∷ []) in
       let counted = h.counted in
+      let reached = h.reached in
+      let number : newest_number m ≤ newest_number (with_record m (record_of txn reply)) = next_number in
       record {
         lawful = h.lawful;
         table = h.table;
@@ -227,6 +245,8 @@ module _ (m : Managed) (h : IsManaged m) (txn : Transaction) (k : IsTransaction 
         legal = IsLegalFrom-append m.schema m.start [] m.history (record_of txn reply) h.legal legal_record;
         counted = omega (arith, more, counted);
         few = omega (arith, few);
+        based = h.based;
+        reached = omega (arith, reached, number);
       }
 
   -- what leaves the table adds no commit

@@ -9,7 +9,7 @@ use Rattle.model.specs.History.{table_with_all}
 use Rattle.delta.specs.Tree.{Tree}
 use Rattle.layers.specs.Over.{tree_of}
 use Rattle.txn.specs.Version.{Lower, LayeredVersion}
-use Rattle.manager.specs.Managed.{Managed, commits_in}
+use Rattle.manager.specs.Managed.{Managed, commits_in, newest_number}
 use Rattle.manager.specs.Kept.{HoldsNewest, commit_trees}
 
 module _ (schema : Columns) where
@@ -31,18 +31,24 @@ module _ (schema : Columns) where
   commit_trees-append t (y ∷ commits) x = ap (λ ts. tree_of schema t y ∷ ts) (commit_trees-append (table_with t y) commits x)
 
   -- the kept trees from an index on are those of the commits after the first j
-  pub kept_since : (t : Table) (commits : List Effects) (recent j first : ℕ) → j ≤ length commits → length commits - j ≤ recent →
-      first + (length commits - j) ≡ length (keep_last recent (commit_trees schema t commits)) →
-      drop first (keep_last recent (commit_trees schema t commits))
+  pub kept_since : (t : Table) (commits : List Effects) (recent floor j first : ℕ) → floor ≤ j → j ≤ length commits →
+      length commits - j ≤ recent →
+      first + (length commits - j) ≡ length (keep_last recent (drop floor (commit_trees schema t commits))) →
+      drop first (keep_last recent (drop floor (commit_trees schema t commits)))
       ≡ commit_trees schema (table_with_all t (take j commits)) (drop j commits)
-  kept_since t commits recent j first within few is =
+  kept_since t commits recent floor j first above within few is =
       let trees = commit_trees schema t commits in
+      let left = drop floor trees in
       let count = length-commit_trees t commits in
-      let kept = length-drop (length trees - recent) trees in
-      let at : (length trees - recent) + first ≡ j = omega (arith, count, kept, is, within, few) in
-      drop-drop first (length trees - recent) trees ∙ ap (λ n. drop n trees) at ∙ drop-commit_trees t commits j
+      let some = length-drop floor trees in
+      let kept = length-drop (length left - recent) left in
+      let at : floor + ((length left - recent) + first) ≡ j = omega (arith, count, some, kept, is, above, within, few) in
+      drop-drop first (length left - recent) left
+      ∙ drop-drop ((length left - recent) + first) floor trees
+      ∙ ap (λ n. drop n trees) at
+      ∙ drop-commit_trees t commits j
 
-drop-within : {A : Type 0} (xs ys : List A) (n : ℕ) → n ≤ length xs → drop n (xs ++ ys) ≡ drop n xs ++ ys
+pub drop-within : {A : Type 0} (xs ys : List A) (n : ℕ) → n ≤ length xs → drop n (xs ++ ys) ≡ drop n xs ++ ys
 drop-within xs ys zero h = refl
 drop-within [] ys (suc n) h = absurd (omega arith)
 drop-within (x ∷ xs) ys (suc n) h = drop-within xs ys n (omega arith)
@@ -63,23 +69,31 @@ keep_last-again recent xs x =
     ∙ ap (λ k. drop k (xs ++ x ∷ [])) at
 
 -- after one commit more the kept trees have its own
-pub kept_next : (schema : Columns) (t : Table) (commits : List Effects) (recent : ℕ) (x : Effects) (tree : Tree) →
-    tree ≡ tree_of schema (table_with_all t commits) x →
-    keep_last recent (keep_last recent (commit_trees schema t commits) ++ tree ∷ [])
-    ≡ keep_last recent (commit_trees schema t (commits ++ x ∷ []))
-kept_next schema t commits recent x tree is =
-    keep_last-again recent (commit_trees schema t commits) tree
-    ∙ ap (λ (u : Tree). keep_last recent (commit_trees schema t commits ++ u ∷ [])) is
-    ∙ ap (keep_last recent) (sym (commit_trees-append schema t commits x))
+pub kept_next : (schema : Columns) (t : Table) (commits : List Effects) (recent floor : ℕ) (x : Effects) (tree : Tree) →
+    floor ≤ length commits → tree ≡ tree_of schema (table_with_all t commits) x →
+    keep_last recent (keep_last recent (drop floor (commit_trees schema t commits)) ++ tree ∷ [])
+    ≡ keep_last recent (drop floor (commit_trees schema t (commits ++ x ∷ [])))
+kept_next schema t commits recent floor x tree within is =
+    let trees = commit_trees schema t commits in
+    let count = length-commit_trees schema t commits in
+    keep_last-again recent (drop floor trees) tree
+    ∙ ap (keep_last recent) (sym (drop-within trees (tree ∷ []) floor (omega (arith, count, within))))
+    ∙ ap (λ (u : Tree). keep_last recent (drop floor (trees ++ u ∷ []))) is
+    ∙ ap (λ (us : List Tree). keep_last recent (drop floor us)) (sym (commit_trees-append schema t commits x))
 
 -- how many trees are kept
 pub kept_count : (m : Managed) (l : Lower) (newest : LayeredVersion) (kept : List Tree) → HoldsNewest m l newest kept
-    → length kept ≡ length (commits_in m) - (length (commits_in m) - m.start.recent)
+    → length kept ≡ (newest_number m - m.floor) - ((newest_number m - m.floor) - m.start.recent)
 kept_count m l newest kept h =
     let trees = commit_trees m.schema m.start.table (commits_in m) in
-    let count = length-commit_trees m.schema m.start.table (commits_in m) in
+    let left = drop (m.floor - m.start.base) trees in
+    let based = h.lawful.based in
+    let reached = h.lawful.reached in
+    let all = length-commit_trees m.schema m.start.table (commits_in m) in
+    let some = length-drop (m.floor - m.start.base) trees in
+    let count : length left ≡ newest_number m - m.floor = omega (arith, based, reached, all, some) in
     ap (λ (ts : List Tree). length ts) h.kept_are
-    ∙ length-drop (length trees - m.start.recent) trees
+    ∙ length-drop (length left - m.start.recent) left
     ∙ ap (λ n. n - (n - m.start.recent)) count
 
 -- what a manager holds, it holds as it is seen

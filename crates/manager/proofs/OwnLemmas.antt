@@ -29,7 +29,7 @@ if_ok (Ok x) f h = f x h
 if_ok (Err e) f h = h
 
 module _ (m : Managed) (l : Lower) (newest : LayeredVersion) (kept : List Tree) (h : HoldsNewest m l newest kept)
-    (txn : Transaction) (own : IsOwn m txn) (recent : is_too_old m txn ≡ false) where
+    (txn : Transaction) (own : IsOwn m txn) (recent : is_too_old m txn ≡ false) (decided : m.floor ≤ txn.begin) where
   -- how many commits came since it began, from the base on
   since_is : newest_number m - txn.begin ≡ length (commits_in m) - (txn.begin - m.start.base)
   since_is = let above = above_base m txn own recent in let begun = own.begun in omega (arith, above, begun)
@@ -43,7 +43,7 @@ module _ (m : Managed) (l : Lower) (newest : LayeredVersion) (kept : List Tree) 
       let few = since_few m txn own recent in
       let is = since_is in
       let count = kept_count m l newest kept h in
-      omega (arith, few, is, count)
+      omega (arith, few, is, count, decided)
 
   -- so that its tree may pass them
   module _ (k : IsTransaction txn) (first : ℕ) (first_is : first ≡ length kept - (newest_number m - txn.begin)) (tree : Tree)
@@ -59,9 +59,10 @@ module _ (m : Managed) (l : Lower) (newest : LayeredVersion) (kept : List Tree) 
         let inside = since_kept in
         let same : length kept ≡ length (kept_trees m) = ap (λ (ts : List Tree). length ts) h.kept_are in
         let near : length (commits_in m) - j ≤ m.start.recent = omega (arith, few, is) in
+        let above : m.floor - m.start.base ≤ j = omega (arith, decided) in
         let at : first + (length (commits_in m) - j) ≡ length (kept_trees m) = omega (arith, first_is, is, inside, same) in
         ap (drop first) h.kept_are
-        ∙ kept_since m.schema m.start.table (commits_in m) m.start.recent j first since_inside near at
+        ∙ kept_since m.schema m.start.table (commits_in m) m.start.recent (m.floor - m.start.base) j first above since_inside near at
         ∙ ap (λ (t : Table). commit_trees m.schema t (commits_since m txn)) (snapshot_is m txn own recent)
 
     abbrev pub may_pass : MayPass m.start.rule (drop first kept) tree

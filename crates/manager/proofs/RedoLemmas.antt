@@ -1,5 +1,5 @@
 -- What a manager holds after a commit is made again.
-use Rattle.std.proofs.Common.{◌≡◌, suc, ◌+◌, ◌-◌, ◌<◌, ◌≤◌, ◌^◌, [], length, sym, ap, ◌∙◌, arith}
+use Rattle.std.proofs.Common.{◌≡◌, suc, ◌+◌, ◌-◌, ◌<◌, ◌≤◌, ◌^◌, [], length, ap, ◌∙◌, arith}
 use Rattle.model.specs.Effects.{Effects, AreOver, table_with}
 use Rattle.model.proofs.CallerLemmas.{leaves}
 use Rattle.delta.specs.Tree.{Tree}
@@ -10,7 +10,7 @@ use Rattle.manager.specs.Kept.{HoldsNewest}
 use Rattle.manager.specs.Prepared.{Granted, IsGrant, MayGrant}
 use Rattle.manager.specs.Redone.{restarted}
 use Rattle.manager.proofs.HistoryLemmas.{number_fits}
-use Rattle.manager.proofs.GrantLemmas.{drop-none}
+use Rattle.manager.proofs.GrantLemmas.{none_kept}
 
 -- the tree of a layer over the newest table, where the limit leaves room
 abbrev pub granted_layer : (m : Managed) (tree : Tree) (w : IsLayer m.schema (newest_table m) tree)
@@ -37,9 +37,11 @@ redone_holds m h few x over room grant is =
         legal = tt;
         counted = omega (arith, fits);
         few = omega (arith, few);
+        based = omega arith;
+        reached = omega arith;
       };
       folded = is.folded;
       newest_is = is.version_is ∙ (λ i. record { schema = m.schema; table = table_with (newest_table m) x; number = none i });
       layers_are = is.layers_are ∙ ap (numbered grant.layers) none;
-      kept_are = sym (drop-none (0 - m.start.recent));
+      kept_are = none_kept m.start.recent (suc (newest_number m) - suc (newest_number m));
     }

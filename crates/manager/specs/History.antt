@@ -11,6 +11,8 @@ pub record Recorded : Type 0 where
   pub records : List Record
   -- whether code keeps them, or clauses alone see them
   pub keeps : Bool
+  -- the trees of its commits up to this number are let go
+  pub floor : ℕ
 
 -- the start of a history over a version
 abbrev pub start_at : TableVersion → ℕ → ℕ → ConflictRule → Start
@@ -19,7 +21,7 @@ start_at v limit recent rule = record { table = v.table; base = v.number; limit 
 -- the history that starts over a version
 abbrev pub recorded_at : TableVersion → ℕ → ℕ → ConflictRule → List Record → Recorded
 recorded_at v limit recent rule records =
-    record { schema = v.schema; start = start_at v limit recent rule; records = records; keeps = true }
+    record { schema = v.schema; start = start_at v limit recent rule; records = records; keeps = true; floor = v.number }
 
 -- whether there are records that code keeps
 abbrev pub keeps_them : Option (List Record) → Bool

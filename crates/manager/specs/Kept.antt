@@ -1,5 +1,5 @@
 -- What a manager holds beside its history: the layers of the newest table, and the trees of the last commits.
-use Rattle.std.specs.Prelude.{◌≡◌, ℕ, suc, ◌-◌, ◌≤◌, ◌&&◌, nat_le, nat_lt, Bool, cond, Option, None, List, [], ◌∷◌, length, slice_get}
+use Rattle.std.specs.Prelude.{◌≡◌, ℕ, suc, ◌-◌, ◌≤◌, ◌&&◌, nat_le, nat_lt, Bool, cond, Option, None, List, [], ◌∷◌, length, slice_get, drop}
 use Rattle.circular_buffer.specs.Buffer.{keep_last}
 use Rattle.values.specs.Shape.{Columns}
 use Rattle.values.specs.declared.limits.TheConstants.{MAX_ROWS}
@@ -18,14 +18,14 @@ abbrev pub commit_trees : Columns → Table → List Effects → List Tree
 commit_trees schema t [] = []
 commit_trees schema t (x ∷ commits) = tree_of schema t x ∷ commit_trees schema (table_with t x) commits
 
--- the trees of the last commits, as many as a transaction may come after
+-- the trees of the last commits above the floor, as many as a transaction may come after
 abbrev pub kept_trees : Managed → List Tree
-kept_trees m = keep_last m.start.recent (commit_trees m.schema m.start.table (commits_in m))
+kept_trees m = keep_last m.start.recent (drop (m.floor - m.start.base) (commit_trees m.schema m.start.table (commits_in m)))
 
--- whether a number is that of one of the last commits since the start
+-- whether a number is that of one of the last commits above the floor
 abbrev pub is_kept : Managed → ℕ → Bool
 is_kept m number =
-    nat_lt m.start.base number && (nat_le number (newest_number m) && nat_lt (newest_number m - number) m.start.recent)
+    nat_lt m.floor number && (nat_le number (newest_number m) && nat_lt (newest_number m - number) m.start.recent)
 
 -- the tree of the commit that made the table of a number, where it is kept
 abbrev pub kept_tree : Managed → ℕ → Option Tree

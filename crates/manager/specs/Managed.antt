@@ -1,5 +1,5 @@
 -- What a manager stands for: where its history starts, the history, how many records it made, and the layers of its newest version.
-use Rattle.std.specs.Prelude.{◌≡◌, ℕ, suc, ◌+◌, ◌-◌, ◌≤◌, ◌^◌, ◌==◌, nat_lt, Bool, ◌||◌, cond, Option, Some, None, List, [], ◌∷◌, ◌++◌, length, drop}
+use Rattle.std.specs.Prelude.{◌≡◌, ℕ, suc, ◌+◌, ◌-◌, ◌≤◌, ◌^◌, ◌==◌, nat_lt, Bool, ◌||◌, cond, min, Option, Some, None, List, [], ◌∷◌, ◌++◌, length, drop}
 use Rattle.values.specs.Shape.{Columns, IsSchema}
 use Rattle.values.specs.declared.limits.TheConstants.{MAX_ROWS, MAX_RECENT_COMMITS}
 use Rattle.model.specs.declared.write.CommitReply.{CommitReply}
@@ -25,14 +25,24 @@ pub record Managed : Type 0 where
   pub layers : Lower
   -- whether it keeps its records, or clauses alone see them
   pub keeps : Bool
+  -- it has let go of the trees of the commits up to this number: what began below is no longer decided
+  pub floor : ℕ
 
 -- the manager of a history that made so many records, over these layers
 abbrev pub managed_of : Recorded → ℕ → Lower → Managed
-managed_of h made layers = record { schema = h.schema; start = h.start; history = h.records; made = made; layers = layers; keeps = h.keeps }
+managed_of h made layers = record {
+  schema = h.schema;
+  start = h.start;
+  history = h.records;
+  made = made;
+  layers = layers;
+  keeps = h.keeps;
+  floor = h.floor;
+}
 
 -- the history of a manager
 abbrev pub history_of : Managed → Recorded
-history_of m = record { schema = m.schema; start = m.start; records = m.history; keeps = m.keeps }
+history_of m = record { schema = m.schema; start = m.start; records = m.history; keeps = m.keeps; floor = m.floor }
 
 -- the manager of a stable table that has just been opened at a number: its trees have no entries, and each commit before it
 -- counts as a record that was made
@@ -72,6 +82,8 @@ pub record IsManaged (m : Managed) : Type 0 where
   pub legal : IsLegal m.schema m.start m.history
   pub counted : m.start.base + length m.history ≤ m.made
   pub few : m.made ≤ 2 ^ 62
+  pub based : m.start.base ≤ m.floor
+  pub reached : m.floor ≤ newest_number m
 
 -- a transaction is of the manager: it began at one of its numbers, from the base on over the table of that number
 pub record IsOwn (m : Managed) (txn : Transaction) : Type 0 where
@@ -115,7 +127,16 @@ with_layers m layers = record m { layers = layers }
 
 -- the manager after a cut: its history starts at the newest version
 abbrev pub cut_of : Managed → Managed
-cut_of m = record m { start = start_at (newest_version m) m.start.limit m.start.recent m.start.rule; history = [] }
+cut_of m = record m {
+  start = start_at (newest_version m) m.start.limit m.start.recent m.start.rule;
+  history = [];
+  floor = newest_number m;
+}
+
+-- the manager that has let go of the trees of its commits up to a number, or up to the newest one: nothing changes where it has
+-- already
+abbrev pub cut_to_of : ℕ → Managed → Managed
+cut_to_of number m = cond (nat_lt m.floor number) (record m { floor = min number (newest_number m) }) m
 
 -- a transaction that has just begun: at all commits, over the newest table
 abbrev pub begun_at : Managed → ℕ → Transaction

@@ -12,6 +12,7 @@ abbrev pub restarted : Managed → Table → Lower → Managed
 restarted m t layers = record m {
   start = start_at (record { schema = m.schema; table = t; number = suc (newest_number m) }) m.start.limit m.start.recent m.start.rule;
   history = [];
+  floor = suc (newest_number m);
   made = suc m.made;
   layers = layers;
 }

@@ -1,6 +1,6 @@
 //! The commit of a transaction: decided by position against the trees of the commits since it began, and folded into
 //! the Write-PDT.
-ghost use Rattle.std.specs.Prelude.{◌≡◌, ◌<◌, ◌^◌, IsFalse, IsTrue, IfOk, IfErr, IfSome, IsOk};
+ghost use Rattle.std.specs.Prelude.{◌≡◌, ◌<◌, ◌≤◌, ◌^◌, IsFalse, IsTrue, IfOk, IfErr, IfSome, IsErr, IsOk};
 ghost use Rattle.std.specs.Option.{option_copied};
 ghost use Rattle.txn.specs.Txn.{IsTransaction};
 
@@ -135,13 +135,14 @@ impl Manager {
     ///
     /// # Errors
     ///
-    /// `NoMemory` where a growth is refused, or where the manager has made 2^62 records: nothing changes, and the
-    /// transaction comes back as it was.
+    /// `NoMemory` where a growth is refused, where the manager has made 2^62 records, or where the transaction began below the
+    /// floor and isn't too old: nothing changes, and the transaction comes back as it was.
     pub fn commit(&mut self, txn: Txn) -> Result<CommitReply, (Txn, NoMemory)>
         requires own { IsOwn self.old txn }
         ensures ok { IfOk result (λ reply. IsDecided self.old txn reply self.new) }
         ensures err { IfErr result (λ e. (self.new ≡ self.old) × (e.0 ≡ txn)) }
         ensures old { IsTrue (is_too_old self.old txn) → self.old.made < 2 ^ 62 → IsOk result }
+        ensures below { txn.begin < self.old.floor → IsFalse (is_too_old self.old txn) → IsErr result }
     {
         match self.prepare(&txn) {
             Ok(prepared) => Ok(self.install(txn, prepared)),
@@ -154,11 +155,13 @@ impl Manager {
     ///
     /// # Errors
     ///
-    /// `NoMemory` where a growth is refused, or where the manager has made 2^62 records.
+    /// `NoMemory` where a growth is refused, where the manager has made 2^62 records, or where the transaction began below the
+    /// floor and isn't too old: the trees that decide it are let go.
     pub fn prepare(&self, txn: &Txn) -> Result<Prepared, NoMemory>
         requires own { IsOwn self.now txn.now }
         ensures prepared { IfOk result (λ prepared. IsPrepared self.now txn.now prepared) }
         ensures old { IsTrue (is_too_old self.now txn.now) → self.now.made < 2 ^ 62 → IsOk result }
+        ensures below { txn.now.begin < self.now.floor → IsFalse (is_too_old self.now txn.now) → IsErr result }
     {
         if self.made >= MAX_RECORDS {
             return Err(NoMemory);
@@ -166,6 +169,9 @@ impl Manager {
         let count = self.newest.number();
         if self.is_too_old(txn) {
             return Ok(Prepared::refused(CommitReply::TooOld(count)));
+        }
+        if txn.begin() < self.floor() {
+            return Err(NoMemory);
         }
         let Some(tree) = self.passed(txn)? else {
             return Ok(Prepared::refused(CommitReply::Conflict(count)));
@@ -227,6 +233,7 @@ impl Manager {
     fn passed(&self, txn: &Txn) -> Result<Option<DeltaTree>, NoMemory>
         requires own { IsOwn self.now txn.now }
         requires recent { IsFalse (is_too_old self.now txn.now) }
+        requires decided { self.now.floor ≤ txn.now.begin }
         ensures { IfOk result (λ tree. IsPassed self.now txn.now tree) }
     {
         let since = (self.newest.number() - txn.begin()) as usize;

@@ -38,6 +38,8 @@ pub struct History {
     count: u64,
     /// The records themselves, or nothing where they are only counted.
     kept: Option<LinkedList<Record>>,
+    /// The trees of its commits up to this number are let go.
+    floor: u64,
 }
 
 impl Model for History {
@@ -50,6 +52,7 @@ impl Model for History {
 
     ghost view = { λ h. record (recorded_at (table_version h.opening.value) h.rules.row_limit h.rules.recent h.rules.conflicts h.all.records) {
       keeps = keeps_them h.kept;
+      floor = h.floor;
     } };
 
     ghost invariant = { λ h. IsLegal h.opening.value.layers.stable.schema
@@ -75,6 +78,7 @@ impl History {
             all: Past::none(),
             count: 0,
             kept: Some(LinkedList::new(alloc)),
+            floor: opening.number(),
         }
     }
 
@@ -131,6 +135,20 @@ impl History {
         ensures { self.new ≡ record self.old { keeps = false } }
     {
         self.kept = None;
+    }
+
+    /// Notes that the trees of its commits up to this number are let go.
+    pub(crate) fn raise(&mut self, floor: u64)
+        ensures { self.new ≡ record self.old { floor = floor } }
+    {
+        self.floor = floor;
+    }
+
+    /// The trees of its commits up to this number are let go.
+    pub fn floor(&self) -> u64
+        ensures { result ≡ self.now.floor }
+    {
+        self.floor
     }
 
     /// The number of commits before its start.

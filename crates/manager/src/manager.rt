@@ -191,6 +191,14 @@ impl Manager {
         self.history.base()
     }
 
+    /// Transactions that began below this number are no longer decided: the trees of the commits up to it are let go, by a cut or
+    /// by `cut_to`. It is the base or above.
+    pub fn floor(&self) -> u64
+        ensures { result ≡ self.now.floor }
+    {
+        self.history.floor()
+    }
+
     /// How many records it made, those that a cut has handed out among them. Each commit before its opening counts as one.
     pub fn made(&self) -> u64
         ensures { result ≡ self.now.made }

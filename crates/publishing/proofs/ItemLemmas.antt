@@ -124,8 +124,8 @@ module _ (o : Managed) (list : List Item) where
 
     -- a manager that made the commits of the item since
     listed_with : (m m' : Managed) → IsListed o list m → m'.schema ≡ m.schema → m'.start ≡ m.start
-        → commits_made m' ≡ commits_made m ++ commits_of_item item → IsListed o more m'
-    listed_with m m' l schema start commits =
+        → m'.keeps ≡ m.keeps → commits_made m' ≡ commits_made m ++ commits_of_item item → IsListed o more m'
+    listed_with m m' l schema start keeps commits =
         let base = base_same in
         let from = l.from_base in
         let based = l.based in
@@ -136,13 +136,14 @@ module _ (o : Managed) (list : List Item) where
           commits = commits ∙ ap (λ (cs : List Commit). cs ++ commits_of_item item) l.commits ∙ sym (since_more l.based);
           from_base = omega (arith, base, from);
           based = omega (arith, base, based, longer);
+          keeps = keeps ∙ l.keeps;
         }
 
   -- the same table once more
   pub listed_same : (v : LayeredVersion) (item : Item) → IsSame v item → (m : Managed) → IsListed o list m
       → IsListed o (list ++ item ∷ []) m
   listed_same v item is m l =
-      listed_with item (same_base v item (base_in o list) is) m m l refl refl
+      listed_with item (same_base v item (base_in o list) is) m m l refl refl refl
       (sym (append-nil (commits_made m)) ∙ ap (λ (cs : List Commit). commits_made m ++ cs) (sym (same_commits v item is)))
 
   all_commits_quiet : (item : Item) → commits_of_item item ≡ [] → all_commits o (list ++ item ∷ []) ≡ all_commits o list
@@ -169,14 +170,22 @@ module _ (o : Managed) (list : List Item) where
 
   -- and a list isn't about layers
   pub listed_over : (m : Managed) (layers : Lower) → IsListed o list m → IsListed o list (with_layers m layers)
-  listed_over m layers l = record { schema = l.schema; start = l.start; commits = l.commits; from_base = l.from_base; based = l.based }
+  listed_over m layers l =
+      record {
+        schema = l.schema;
+        start = l.start;
+        commits = l.commits;
+        from_base = l.from_base;
+        based = l.based;
+        keeps = l.keeps;
+      }
 
   module _ (m : Managed) (l : IsListed o list m) where
     -- ---- a cut
 
     -- the history that a cut hands out
     pub of_list : IsOfList o list (history_of m)
-    of_list = record { schema = l.schema; start = l.start; commits = l.commits }
+    of_list = record { schema = l.schema; start = l.start; commits = l.commits; keeps = l.keeps }
 
     -- a manager cut at its newest number is that of the list with the cut
     pub listed_cut : (base : ℕ) (v : LayeredVersion) (item : Item) → IsCutAt base v item → base ≡ newest_number m
@@ -208,6 +217,7 @@ module _ (o : Managed) (list : List Item) where
               ∙ drop_at (all_commits o list) [] (length (all_commits o list)) refl);
           from_base = omega (arith, at, same);
           based = omega (arith, at, same, count);
+          keeps = l.keeps;
         }
 
     -- ---- a commit
@@ -226,6 +236,7 @@ module _ (o : Managed) (list : List Item) where
             ∙ l.commits;
         from_base = l.from_base;
         based = l.based;
+        keeps = l.keeps;
       }
 
       -- a commit that is granted is the next item
@@ -233,7 +244,7 @@ module _ (o : Managed) (list : List Item) where
           → commits_of_item item ≡ commit_of txn ∷ [] → (n : ℕ) → Committed n ≡ reply_due m txn →
           IsListed o (list ++ item ∷ []) (with_record m (record_of txn (Committed n)))
       listed_commit item same is n due =
-          listed_with item same m (with_record m (record_of txn (Committed n))) l refl refl
+          listed_with item same m (with_record m (record_of txn (Committed n))) l refl refl refl
           (commits_recorded m h txn k own (Committed n) due ∙ ap (λ (cs : List Commit). commits_made m ++ cs) (sym is))
 
     -- and the version after it is that of the list

@@ -69,6 +69,7 @@ module _ (o : Managed) where
         commits = sym (ap (λ n. drop n (all_commits o [])) none ∙ append-nil (commits_made o));
         from_base = omega arith;
         based = omega arith;
+        keeps = refl;
       }
 
   -- ---- the manager of a list

@@ -86,6 +86,7 @@ no_manager = record {
   history = [];
   made = 0;
   keeps = true;
+  floor = 0;
   layers = alone (record { schema = record { names = []; types = []; key_cols = 0 }; rows = [] });
 }
 
@@ -163,16 +164,18 @@ module _ (o : Managed) where
     pub begun : txn.begin ≤ number_in list
     pub snapshot : txn.table ≡ table_at list txn.begin
 
-  -- a history whose commits, and whose start, are those of the list
+  -- a history whose commits, and whose start, are those of the list, and whose records are kept where the opening keeps them
   pub record IsOfList (list : List Item) (h : Recorded) : Type 0 where
     pub schema : h.schema ≡ o.schema
     pub start : h.start ≡ start_in list
     pub commits : commits_from_records h.schema h.start [] h.records ≡ commits_since_start list
+    pub keeps : h.keeps ≡ o.keeps
 
-  -- a manager whose commits, and whose start, are those of the list
+  -- a manager whose commits, and whose start, are those of the list, and which keeps records where the opening does
   pub record IsListed (list : List Item) (m : Managed) : Type 0 where
     pub schema : m.schema ≡ o.schema
     pub start : m.start ≡ start_in list
     pub commits : commits_made m ≡ commits_since_start list
     pub from_base : o.start.base ≤ base_in list
     pub based : base_in list ≤ number_in list
+    pub keeps : m.keeps ≡ o.keeps

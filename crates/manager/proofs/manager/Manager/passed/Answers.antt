@@ -14,7 +14,7 @@ overflow_sub-first c =
     let i = c.self.inside in
     let h = holds c.self.view_is c.self.invariant.0 in
     let number = ap (λ (v : TableVersion). v.number) h.newest_is in
-    let inside = since_kept c.args.self.now i.newest.layers i.newest i.kept.items h c.args.txn.now c.requires.own c.requires.recent in
+    let inside = since_kept c.args.self.now i.newest.layers i.newest i.kept.items h c.args.txn.now c.requires.own c.requires.recent c.requires.decided in
     omega (arith, number, inside, c.number.ensures, c.begin.ensures.number, c.len.ensures.len)
 
 -- the first of the kept trees that the transaction comes after
@@ -37,7 +37,7 @@ passed_through-requires c =
     subst
     (λ (r : ConflictRule). MayPass r (drop (c.len.result - (c.number.result - c.begin.result)) i.kept.items) c.in_ok-tree.tree)
     (sym (rule before))
-    (may_pass c.args.self.now i.newest.layers i.newest i.kept.items h c.args.txn.now c.requires.own c.requires.recent
+    (may_pass c.args.self.now i.newest.layers i.newest i.kept.items h c.args.txn.now c.requires.own c.requires.recent c.requires.decided
     c.begin.ensures.lawful _ (first before) c.in_ok-tree.tree (c.in_ok-tree.ensures ∙ c.tree.ensures))
 
 pub returns : goal.returns
@@ -51,13 +51,13 @@ returns c =
     let n = c.len.result - (c.number.result - c.begin.result) in
     let own_tree = c.in_ok-tree.ensures ∙ c.tree.ensures in
     let w =
-    may_pass m l i.newest i.kept.items h txn c.requires.own c.requires.recent c.begin.ensures.lawful n (first before)
+    may_pass m l i.newest i.kept.items h txn c.requires.own c.requires.recent c.requires.decided c.begin.ensures.lawful n (first before)
     c.in_ok-tree.tree own_tree in
     let P =
     λ (r : ConflictRule). IfOk c.passed_through.result (λ passed. (v : MayPass r (drop n i.kept.items) c.in_ok-tree.tree)
     → IsThrough r (drop n i.kept.items) c.in_ok-tree.tree v passed) in
     let all : P m.start.rule = subst P (rule before) c.passed_through.ensures in
     if_ok c.passed_through.result
-    (λ passed told. led_on m l i.newest i.kept.items h txn c.requires.own c.requires.recent c.begin.ensures.lawful n (first before)
+    (λ passed told. led_on m l i.newest i.kept.items h txn c.requires.own c.requires.recent c.requires.decided c.begin.ensures.lawful n (first before)
     c.in_ok-tree.tree own_tree passed (told w))
     all
