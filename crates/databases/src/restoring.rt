@@ -5,6 +5,7 @@ ghost use Rattle.manager.specs.Managed.{newest_table};
 ghost use Rattle.manifest.specs.Manifest.{table_now};
 ghost use Rattle.model.specs.Table.{rows_of};
 ghost use Rattle.segments.specs.Pieces.{piece_now};
+ghost use Rattle.values.specs.declared.limits.TheConstants.{MAX_RECENT_COMMITS, MAX_ROWS};
 ghost use Rattle.databases.specs.Restored.{AreRemade, AreRestored, IsBroken, IsLost, IsUnmade, broken_after, fault_of, files_now, is_chain, newest_of, stands};
 
 use crate::fault::RestoreFault;
@@ -153,7 +154,10 @@ fn broken_after(newest: u64) -> RecoverFault
 }
 
 /// The widest limits: a commit that was made was within those of its table.
-fn limits() -> Limits {
+fn limits() -> Limits
+    ensures row_limit { result.row_limit ≡ MAX_ROWS }
+    ensures recent { result.recent ≡ MAX_RECENT_COMMITS }
+{
     Limits {
         row_limit: MAX_ROWS,
         recent: MAX_RECENT_COMMITS,

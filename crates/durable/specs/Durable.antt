@@ -1,5 +1,5 @@
 -- What a durable manager stands for, and what a commit does to it.
-use Rattle.std.specs.Prelude.{◌≡◌, ℕ, suc, ◌-◌, ◌<◌, ◌^◌, List, [], ◌∷◌, length, Ok}
+use Rattle.std.specs.Prelude.{◌≡◌, ℕ, suc, ◌-◌, ◌<◌, ◌≤◌, ◌^◌, List, [], ◌∷◌, length, Ok}
 use Rattle.model.specs.declared.entry.Entry.{Entry}
 use Rattle.model.specs.declared.write.CommitReply.{CommitReply}
 use Rattle.model.specs.declared.write.CommitReply.TheVariants.{Committed, Conflict, TooOld, Full}
@@ -77,6 +77,10 @@ abbrev pub IsReadable : Durable → Transaction → Type 0
 IsReadable d txn =
     (Committed (suc (newest_number d.manager)) ≡ reply_due d.manager txn) × IsReadAgain d txn (Committed (suc (newest_number d.manager)))
 
+-- a payload is too long for a frame
+abbrev pub IsLong : Logged → Type 0
+IsLong l = 2 ^ 32 ≤ length l.payload
+
 -- a commit isn't answered: the manager is as it was, and its frame wasn't logged. Where the device failed over it, the frame is that
 -- of a commit
 pub record IsLeftOut (old : Durable) (txn : Transaction) (fault : CommitFault) (new : Durable) : Type 0 where
@@ -84,3 +88,4 @@ pub record IsLeftOut (old : Durable) (txn : Transaction) (fault : CommitFault) (
   pub table : new.table ≡ old.table
   pub log : IsUnlogged fault (frame_bytes old.log.seed (logged_of old txn (suc (newest_number old.manager)))) old.log new.log
   pub frame : fault ≡ Unsure → IsReadable old txn
+  pub long : fault ≡ TooLong → IsLong (logged_of old txn (suc (newest_number old.manager)))

@@ -1,13 +1,14 @@
 //! What is logged of a commit.
-ghost use Rattle.std.specs.Prelude.{◌≡◌, ◌<◌, ◌≤◌, ◌^◌, suc, Ok, length, IfErr, IsTrue, OnErr, OnOk};
+ghost use Rattle.std.specs.Prelude.{◌≡◌, ◌≢◌, ◌<◌, ◌≤◌, ◌^◌, suc, Ok, Err, length, IfErr, IsTrue, OnErr, OnOk};
 ghost use Rattle.codec.specs.Fit.{EntriesFit};
 ghost use Rattle.codec.specs.Reading.{entries_in};
+ghost use Rattle.codec.specs.declared.fault.SpellFault.TheVariants as spell_fault;
 ghost use Rattle.journal.specs.Frame.{frame_bytes};
 ghost use Rattle.journal.specs.Reading.{logged_in};
 ghost use Rattle.logging.specs.Log.{with_safe};
 ghost use Rattle.manager.specs.Managed.{IsOwn, is_too_old, newest_number};
 ghost use Rattle.manager.specs.Prepared.{IsPrepared};
-ghost use Rattle.durable.specs.Durable.{IsReadAgain, IsReadable, IsUnlogged, log_with, logged_for, logged_of, over, payload_for};
+ghost use Rattle.durable.specs.Durable.{IsLong, IsReadAgain, IsReadable, IsUnlogged, log_with, logged_for, logged_of, over, payload_for};
 
 use crate::fault::CommitFault;
 use codec::{SpellFault, commit_entries_fit, write_part};
@@ -46,6 +47,7 @@ pub(crate) fn log_commit<D: JournalDevice>(
         journal.old journal.new) }
     ensures unsure { IfErr result (λ fault. fault ≡ CommitFault.Unsure → (length (payload_for table tree.now.entries) < 2 ^ 32)
         × (entries_in schema.now table (payload_for table tree.now.entries) ≡ Ok tree.now.entries)) }
+    ensures long { IfErr result (λ fault. fault ≡ CommitFault.TooLong → IsLong (logged_for table number tree.now.entries)) }
 {
     spell(payload, schema, table, tree)?;
     let frame = Frame {
@@ -62,6 +64,7 @@ fn append<D: JournalDevice>(journal: &mut Appender<D>, frame: &Frame<'_>) -> Res
     requires size { length frame.now.payload.now < 2 ^ 32 }
     ensures ok { OnOk result (journal.new ≡ with_safe (frame_bytes journal.old.seed (logged_in frame.now)) journal.old) }
     ensures err { IfErr result (λ fault. IsUnlogged fault (frame_bytes journal.old.seed (logged_in frame.now)) journal.old journal.new) }
+    ensures short { IfErr result (λ fault. fault ≢ CommitFault.TooLong) }
 {
     match journal.log(frame) {
         Ok(()) => Ok(()),
@@ -91,6 +94,8 @@ pub(crate) fn log_prepared<D: JournalDevice>(
     ensures err { IfErr result (λ fault. IsUnlogged fault (frame_bytes journal.old.seed
         (logged_of (over manager.now journal.old table) txn.now (suc (newest_number manager.now)))) journal.old journal.new) }
     ensures unsure { IfErr result (λ fault. fault ≡ CommitFault.Unsure → IsReadable (over manager.now journal.old table) txn.now) }
+    ensures long { IfErr result (λ fault. fault ≡ CommitFault.TooLong
+        → IsLong (logged_of (over manager.now journal.old table) txn.now (suc (newest_number manager.now)))) }
     ensures granted { OnErr result (IsTrue (is_too_old manager.now txn.now) → ⊥) }
 {
     // These are called for what their clauses tell.
@@ -120,6 +125,7 @@ fn spell(
     ensures ok { OnOk result (payload.new.items ≡ payload_for table tree.now.entries) }
     ensures short { OnOk result (length (payload_for table tree.now.entries) < 2 ^ 32) }
     ensures again { OnOk result (entries_in schema.now table (payload_for table tree.now.entries) ≡ Ok tree.now.entries) }
+    ensures long { result ≡ Err spell_fault.TooLong → 2 ^ 32 ≤ length (payload_for table tree.now.entries) }
 {
     payload.clear();
     if tree.len() > 0 {

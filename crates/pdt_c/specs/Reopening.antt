@@ -1,15 +1,16 @@
 -- What is reopened on a stored image and a journal.
-use Rattle.std.specs.Prelude.{◌≡◌, ◌≢◌, ◌<◌, ◌^◌, ℕ, ◌+◌, ◌-◌, false, List, Ok, length}
+use Rattle.std.specs.Prelude.{◌≡◌, ◌≢◌, ◌<◌, ◌^◌, ◌⊎◌, ℕ, ◌+◌, ◌-◌, true, false, List, Ok, length, map}
 use Rattle.codec.specs.Reading.{decoded}
 use Rattle.devices.specs.Stored.{stored_image}
-use Rattle.inputs.specs.Input.{IsTableOf}
-use Rattle.journal.specs.Reading.{Read, read_of}
-use Rattle.manager.specs.Managed.{Managed, newest_number, newest_table}
+use Rattle.inputs.specs.Input.{IsFaultOf, IsTableOf}
+use Rattle.inputs.specs.declared.fault.TableFault.TheVariants.{TooManyRows}
+use Rattle.journal.specs.Reading.{read_of}
+use Rattle.manager.specs.Managed.{Managed, is_bad_limit, newest_number, newest_table}
 use Rattle.model.specs.Effects.{Effects}
 use Rattle.model.specs.declared.clash.ConflictRule.{ConflictRule}
 use Rattle.model.specs.Table.{Table, rows_of}
-use Rattle.replay.specs.Recovered.{HasPrefix, IsCrashed, IsImage, IsTold, MayEnd, logged_since}
-use Rattle.replay.specs.Replayed.{rows_after}
+use Rattle.replay.specs.Recovered.{AreBehind, HasPrefix, IsBlameless, IsCrashed, IsImage, IsTold, MayEnd, frames_since, logged_since, newest_in, payloads_since}
+use Rattle.replay.specs.Replayed.{AreRead, AreSaid, IsMisfit, IsNamed, IsPastLimit, rows_after}
 use Rattle.replay.specs.declared.fault.RecoverFault.{RecoverFault}
 use Rattle.replay.specs.declared.fault.RecoverFault.TheVariants as fault
 use Rattle.stable.specs.Stable.{Stable}
@@ -33,8 +34,13 @@ pub record IsRemadeOf (image : Stable) (number table seed base : ℕ) (frames : 
   pub schema : m.schema ≡ image.schema
   pub rows : rows_of (newest_table m) ≡ rows_after image.rows (logged_since (decoded image.schema table) seed base number frames)
   pub number_is : newest_number m ≡ number + length (logged_since (decoded image.schema table) seed base number frames)
+  -- the newest commit is that of the last whole frame: one for all tables of the journal
+  pub newest_is : newest_number m ≡ newest_in seed base frames
   pub whole_is : whole ≡ length frames - length (read_of seed (base + 1) frames).rest
   pub ending : MayEnd (read_of seed (base + 1) frames).ending
+  -- no commit is passed over
+  pub reached : AreBehind base number (read_of seed (base + 1) frames)
+  pub read : AreRead image.schema table (payloads_since seed base number frames)
   -- wherever a crash fell
   pub prefix :
       (t : Table) (commits : List Effects) (safe : ℕ)
@@ -71,9 +77,46 @@ told_fault fault.BadLimit = (BAD_LIMIT, 0)
 told_fault fault.TooManyRows = (TOO_MANY_ROWS, 0)
 told_fault fault.NoMemory = (NO_MEMORY, 0)
 
--- nothing is reopened: rot and a gap are told with the commit that is the first damaged or missing, where the base is one that a
--- journal has
-pub record IsRefusal (code commit base number : ℕ) (read : Read) : Type 0 where
+-- MISFIT of an image and frames, with a commit: the newest commit has too great a number, or the payload of a commit since the image,
+-- which is named, can't be read or makes none. Wherever a crash fell, none is named where the payloads say the commits' entries
+pub record IsMisfitOf (image : Stable) (number table seed base : ℕ) (frames : List ℕ) (commit : ℕ) : Type 0 where
+  pub fault : RecoverFault
+  pub code_is : told_fault fault ≡ (MISFIT, commit)
+  pub told : IsTold fault base number (read_of seed (base + 1) frames)
+  pub named : IsMisfit fault → IsNamed image.schema table (frames_since seed base number frames) fault
+  pub sound :
+      (t : Table) (commits : List Effects) (safe : ℕ)
+      → (crash : IsCrashed (decoded image.schema table) image.schema seed base t commits safe frames)
+      → AreSaid image.schema table t commits (map (λ l. l.payload) crash.logged)
+      → IsImage base t commits safe number image.rows
+      → IsBlameless fault
+
+-- a table on the way from an image has more rows than a limit
+abbrev pub IsOverfull : Stable → ℕ → ℕ → ℕ → ℕ → ℕ → List ℕ → Type 0
+IsOverfull image row_limit number table seed base frames =
+    IsPastLimit row_limit image.rows (logged_since (decoded image.schema table) seed base number frames)
+
+-- nothing is remade of an image and frames: each code has its cause
+pub record IsUnmade (image : Stable) (row_limit recent number table seed base : ℕ) (frames : List ℕ) (code commit : ℕ) : Type 0 where
   pub some : code ≢ DONE
-  pub rot : code ≡ ROT → IsTold (fault.Rot commit) base number read
-  pub gap : code ≡ GAP → base < 2 ^ 63 → IsTold (fault.Gap commit) base number read
+  pub rot : code ≡ ROT → IsTold (fault.Rot commit) base number (read_of seed (base + 1) frames)
+  pub gap : code ≡ GAP → IsTold (fault.Gap commit) base number (read_of seed (base + 1) frames)
+  pub misfit : code ≡ MISFIT → IsMisfitOf image number table seed base frames commit
+  pub limits : code ≡ BAD_LIMIT → is_bad_limit recent row_limit ≡ true
+  pub full : code ≡ TOO_MANY_ROWS → IsOverfull image row_limit number table seed base frames
+
+-- nothing is reopened, and each code has its cause: rot and a gap are told with the commit that is the first damaged or missing, where
+-- the base is one that a journal has. Under the seed 0 no journal is
+pub record IsRefusal (header : List ℕ) (columns : List (List ℕ)) (row_limit recent number table seed base : ℕ) (frames : List ℕ)
+    (code commit : ℕ) : Type 0 where
+  pub some : code ≢ DONE
+  pub rot : code ≡ ROT → IsTold (fault.Rot commit) base number (read_of seed (base + 1) frames)
+  pub gap : code ≡ GAP → base < 2 ^ 63 → IsTold (fault.Gap commit) base number (read_of seed (base + 1) frames)
+  pub misfit :
+      code ≡ MISFIT
+      → (seed ≡ 0) ⊎ ((image : Stable) × IsImageIn header columns image × IsMisfitOf image number table seed base frames commit)
+  pub limits : code ≡ BAD_LIMIT → is_bad_limit recent row_limit ≡ true
+  pub full :
+      code ≡ TOO_MANY_ROWS
+      → IsFaultOf header TooManyRows
+      ⊎ ((image : Stable) × IsImageIn header columns image × IsOverfull image row_limit number table seed base frames)

@@ -1,9 +1,10 @@
 //! What a call answers C, as numbers. `pdt.h` has their names.
 ghost use Rattle.std.specs.Prelude.{◌≡◌, ◌≢◌, ◌<◌, ◌⊎◌, IfOk, IfErr, Ok, Err};
 ghost use Rattle.pdt_c.specs.Importing.{told_marks, told_reading};
+ghost use Rattle.pdt_c.specs.Journals.{code_of_header};
 ghost use Rattle.pdt_c.specs.Reopening.{told_fault};
 ghost use Rattle.pdt_c.specs.Told.{told, code_of_reply};
-ghost use Rattle.pdt_c.specs.declared.codes.TheConstants.{BAD_STORE, BAD_TABLE, DONE, NOT_ASCENDING, NO_MEMORY, ROT, SHAPE, TOO_LONG};
+ghost use Rattle.pdt_c.specs.declared.codes.TheConstants.{BAD_LIMIT, BAD_STORE, BAD_TABLE, DONE, NOT_ASCENDING, NO_MEMORY, ROT, SHAPE, TOO_LONG, TOO_MANY_ROWS};
 ghost use Rattle.codec.specs.declared.fault.SpellFault.TheVariants as spell_fault;
 ghost use Rattle.txn.specs.declared.fault.WriteFault.TheVariants as write_fault;
 
@@ -13,6 +14,7 @@ use devices::StoreFault;
 use frames::ReadFault;
 use images::ImagesFault;
 use inputs::TableFault;
+use journal::HeaderFault;
 use manager::OpenFault;
 use model::{CommitReply, WriteReply};
 use replay::RecoverFault;
@@ -56,6 +58,9 @@ pub(crate) const GAP: u32 = 22;
 pub(crate) const MISFIT: u32 = 23;
 
 pub(crate) const TOO_LONG: u32 = 26;
+
+/// The journal's header is of a version of the format that this library doesn't know.
+pub(crate) const UNKNOWN_VERSION: u32 = 27;
 
 /// No column has this number.
 pub(crate) const NO_COLUMN: u64 = 64;
@@ -110,6 +115,8 @@ pub(crate) fn code_of_table(fault: TableFault) -> u32
     ensures bad { result ≡ BAD_TABLE → fault ≢ TableFault.NoMemory }
     ensures other { (result ≢ SHAPE) × (result ≢ NOT_ASCENDING) }
     ensures text { result ≢ BAD_STORE }
+    ensures limit { result ≢ BAD_LIMIT }
+    ensures many { result ≡ TOO_MANY_ROWS → fault ≡ TableFault.TooManyRows }
 {
     match fault {
         TableFault::NoMemory => NO_MEMORY,
@@ -134,6 +141,7 @@ pub(crate) fn code_of_opening(fault: OpenFault) -> u32
 pub(crate) fn code_of_reading(fault: ReadFault) -> u32
     ensures some { 0 < result }
     ensures below { result < ROT }
+    ensures other { (result ≢ BAD_LIMIT) × (result ≢ TOO_MANY_ROWS) }
 {
     match fault {
         ReadFault::NoMemory => NO_MEMORY,
@@ -177,6 +185,16 @@ pub(crate) fn code_of_spelling(fault: SpellFault) -> u32
     match fault {
         SpellFault::TooLong => TOO_LONG,
         SpellFault::NoMemory => NO_MEMORY,
+    }
+}
+
+/// The code of why bytes begin with no journal's header.
+pub(crate) fn code_of_header(fault: HeaderFault) -> u32
+    ensures { result ≡ code_of_header fault }
+{
+    match fault {
+        HeaderFault::UnknownVersion => UNKNOWN_VERSION,
+        _ => ROT,
     }
 }
 

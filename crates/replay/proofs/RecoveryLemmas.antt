@@ -118,6 +118,14 @@ frames_since d frames skipped read is =
     ∙ sym (said_by_frames d (drop skipped frames))
     ∙ ap (map (λ l. d l.payload)) (sym (drop-map logged_in skipped frames) ∙ ap (drop skipped) is)
 
+-- and those that are left
+pub frames_left : (frames : List Frame) (skipped : ℕ) (read : Read) → map logged_in frames ≡ read.logged
+    → map logged_in (take (length frames - skipped) (drop skipped frames)) ≡ drop skipped read.logged
+frames_left frames skipped read is =
+    ap (map logged_in) (take-all (drop skipped frames) (length frames - skipped) (sym (length-drop skipped frames)))
+    ∙ sym (drop-map logged_in skipped frames)
+    ∙ ap (drop skipped) is
+
 -- ---- the commits that a sound crash leaves behind an image
 
 -- of commits, the first ones are commits

@@ -1,5 +1,5 @@
 -- What commits make of a manager, when they are made again.
-use Rattle.std.proofs.Common.{◌≡◌, ℕ, zero, suc, ◌+◌, ◌<◌, Ok, List, [], ◌∷◌, ◌++◌, length, map, take, get_or, refl, sym, ap, ◌∙◌, arith}
+use Rattle.std.proofs.Common.{◌≡◌, ℕ, zero, suc, ◌+◌, ◌<◌, inl, inr, Ok, List, [], ◌∷◌, ◌++◌, length, map, take, get_or, refl, sym, ap, ◌∙◌, arith}
 use Rattle.std.proofs.Math.Seq.{take-suc}
 use Rattle.std.proofs.lemmas.List.{map-append}
 use Rattle.values.specs.Shape.{Columns}
@@ -18,7 +18,11 @@ use Rattle.delta.specs.Tree.{Tree}
 use Rattle.merge.specs.Image.{IsLayer}
 use Rattle.manager.specs.Managed.{Managed, newest_number, newest_table}
 use Rattle.manager.specs.Redone.{IsRedone}
-use Rattle.replay.specs.Replayed.{AreSaid, IsReplayed, rows_after}
+use Rattle.std.specs.Prelude.{IsOk}
+use Rattle.replay.specs.Replayed.{AreRead, AreSaid, IsCaused, IsNamed, IsNamedAt, IsPastLimit, IsReplayed, IsStopped, IsTooLarge, rows_after}
+use Rattle.journal.specs.Frame.{Logged}
+use Rattle.replay.specs.declared.fault.RecoverFault.{RecoverFault}
+use Rattle.replay.specs.declared.fault.RecoverFault.TheVariants as fault
 use Rattle.replay.proofs.RecoveryLemmas.{rows_after-append}
 
 next : (n : ℕ) → suc n + 0 ≡ n + 1
@@ -53,7 +57,7 @@ replayed_then first middle last rows more m n k sum a b = record {
   rule = b.rule ∙ a.rule;
 }
 
-first_more : {V : Type 0} (f : V → List Entry) (vs : List V) (i : ℕ) (d : V) → i < length vs
+pub first_more : {V A : Type 0} (f : V → A) (vs : List V) (i : ℕ) (d : V) → i < length vs
     → map f (take (suc i) vs) ≡ map f (take i vs) ++ f (get_or vs i d) ∷ []
 first_more f vs i d lt = ap (map f) (take-suc vs i d lt) ∙ map-append f (take i vs) (get_or vs i d ∷ [])
 
@@ -86,6 +90,47 @@ replayed_more f first middle after last rows vs i d entries lt same a b c =
       recent = all.recent;
       rule = all.rule;
     }
+
+-- ---- payloads that are read, and rows that are too many
+
+-- one payload more is read
+pub are_read-append : (schema : Columns) (table : ℕ) (payloads : List (List ℕ)) (payload : List ℕ) → AreRead schema table payloads
+    → IsOk (entries_in schema table payload) → AreRead schema table (payloads ++ payload ∷ [])
+are_read-append schema table [] payload h is = (is, tt)
+are_read-append schema table (p ∷ payloads) payload h is = (h.0, are_read-append schema table payloads payload h.1 is)
+
+-- rows above a limit are past it, whatever is logged after them
+pub past_now : (limit : ℕ) (rows : List Row) (logged : List (List Entry)) → limit < length rows → IsPastLimit limit rows logged
+past_now limit rows [] h = h
+past_now limit rows (entries ∷ logged) h = inl h
+
+-- and so are those that one of the logged commits leaves
+pub past_at : {V : Type 0} (f : V → List Entry) (limit : ℕ) (rows : List Row) (vs : List V) (i : ℕ) (d : V) → i < length vs
+    → IsTooLarge limit (rows_after rows (map f (take i vs))) (f (get_or vs i d)) → IsPastLimit limit rows (map f vs)
+past_at f limit rows [] i d lt h = absurd (omega (arith, lt))
+past_at f limit rows (v ∷ vs) zero d lt (inl many) = inr (inl many)
+past_at f limit rows (v ∷ vs) zero d lt (inr more) = inr (inr (past_now limit (merged_rows rows (f v)) (map f vs) more))
+past_at f limit rows (v ∷ vs) (suc i) d lt h = inr (inr (past_at f limit (merged_rows rows (f v)) vs i d (omega (arith, lt)) h))
+
+-- what stops a frame has its cause
+pub stopped_caused : (recent limit : ℕ) (rows here : List Row) (entries : List Entry) (logged : List (List Entry)) (f : RecoverFault)
+    → IsStopped limit here entries f → (IsTooLarge limit here entries → IsPastLimit limit rows logged)
+    → IsCaused recent limit rows logged f
+stopped_caused recent limit rows here entries logged fault.TooManyRows h past = past h
+stopped_caused recent limit rows here entries logged fault.BadLimit h past = absurd h
+stopped_caused recent limit rows here entries logged fault.NumbersSpent h past = tt
+stopped_caused recent limit rows here entries logged fault.NoMemory h past = tt
+stopped_caused recent limit rows here entries logged (fault.Rot n) h past = tt
+stopped_caused recent limit rows here entries logged (fault.Gap n) h past = tt
+stopped_caused recent limit rows here entries logged (fault.BadPayload n p) h past = tt
+stopped_caused recent limit rows here entries logged (fault.Misfit n) h past = tt
+
+-- a frame that is named is one of them
+pub named_at : (schema : Columns) (table : ℕ) (logged : List Logged) (i : ℕ) (d : Logged) (f : RecoverFault) → i < length logged
+    → IsNamedAt schema table (get_or logged i d) f → IsNamed schema table logged f
+named_at schema table [] i d f lt h = absurd (omega (arith, lt))
+named_at schema table (l ∷ logged) zero d f lt h = inl h
+named_at schema table (l ∷ logged) (suc i) d f lt h = inr (named_at schema table logged i d f (omega (arith, lt)) h)
 
 -- ---- frames that say commits
 

@@ -34,6 +34,15 @@ pub record IsCrashed (decode : List ℕ → List Entry) (schema : Columns) (seed
   pub few : (base + 1) + length logged ≤ 2 ^ 63
   pub left : IsLeft seed (base + 1) logged safe bytes
 
+-- frames that were read behind a base go on from an image of this number: no commit between them is missing
+pub record AreBehind (base number : ℕ) (read : Read) : Type 0 where
+  pub from : base ≤ number
+  pub upto : number ≤ base + length read.logged
+
+-- the number of the newest commit that bytes say behind a base
+abbrev pub newest_in : ℕ → ℕ → List ℕ → ℕ
+newest_in seed base bytes = base + length (read_of seed (base + 1) bytes).logged
+
 -- the table after the first of the commits
 abbrev pub table_at : Table → List Effects → ℕ → Table
 table_at t commits k = table_with_all t (take k commits)
@@ -41,6 +50,14 @@ table_at t commits k = table_with_all t (take k commits)
 -- the logged commits that bytes say as a journal, from the one after an image on
 abbrev pub logged_since : (List ℕ → List Entry) → ℕ → ℕ → ℕ → List ℕ → List (List Entry)
 logged_since decode seed base number bytes = map (λ l. decode l.payload) (drop (number - base) (read_of seed (base + 1) bytes).logged)
+
+-- those frames
+abbrev pub frames_since : ℕ → ℕ → ℕ → List ℕ → List Logged
+frames_since seed base number bytes = drop (number - base) (read_of seed (base + 1) bytes).logged
+
+-- and their payloads
+abbrev pub payloads_since : ℕ → ℕ → ℕ → List ℕ → List (List ℕ)
+payloads_since seed base number bytes = map (λ l. l.payload) (frames_since seed base number bytes)
 
 -- Wherever a crash falls: over the image of one of the commits that were safe, what is recovered is the table after the first
 -- commits, as many as the device said were safe, or more. Whatever payloads are spelt like.

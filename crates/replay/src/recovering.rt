@@ -5,8 +5,9 @@ ghost use Rattle.journal.specs.Reading.{read_of};
 ghost use Rattle.manager.specs.Managed.{newest_number, newest_table, opened_at};
 ghost use Rattle.model.specs.Effects.{Effects};
 ghost use Rattle.model.specs.Table.{Table, rows_of};
-ghost use Rattle.replay.specs.Recovered.{HasPrefix, IsBlameless, IsCrashed, IsImage, IsLate, IsMissing, IsTold, MayEnd, logged_since};
-ghost use Rattle.replay.specs.Replayed.{AreSaid, rows_after};
+ghost use Rattle.replay.specs.Recovered.{HasPrefix, IsBlameless, IsCrashed, IsImage, IsLate, IsMissing, IsTold, MayEnd, AreBehind, frames_since, logged_since, newest_in, payloads_since};
+ghost use Rattle.model.specs.declared.entry.Entry.{Entry};
+ghost use Rattle.replay.specs.Replayed.{AreRead, AreSaid, IsCaused, IsMisfit, IsNamed, rows_after};
 
 use crate::fault::RecoverFault;
 use crate::laws::recovery_is_a_prefix;
@@ -78,9 +79,18 @@ pub fn recover(
         (logged_since (decoded image.table.schema table) frames.entry.seed frames.entry.base image.number frames.entry.bytes.now)) }
     ensures number { IfOk result (λ r. newest_number r.manager ≡ image.number
         + length (logged_since (decoded image.table.schema table) frames.entry.seed frames.entry.base image.number frames.entry.bytes.now)) }
+
+    // The newest commit is that of the last whole frame: one for all tables of a journal.
+    ensures newest { IfOk result (λ r. newest_number r.manager ≡ newest_in frames.entry.seed frames.entry.base frames.entry.bytes.now) }
     ensures schema { IfOk result (λ r. r.manager.schema ≡ image.table.schema) }
     ensures limits { IfOk result (λ r. (r.manager.start.limit ≡ limits.row_limit) × (r.manager.start.recent ≡ limits.recent)
         × (r.manager.start.rule ≡ limits.conflicts)) }
+
+    // No commit is passed over: the frames go on from the image, and the payload of each since then was read.
+    ensures reached { IfOk result (λ r. AreBehind frames.entry.base image.number
+        (read_of frames.entry.seed (frames.entry.base + 1) frames.entry.bytes.now)) }
+    ensures read { IfOk result (λ r. AreRead image.table.schema table
+        (payloads_since frames.entry.seed frames.entry.base image.number frames.entry.bytes.now)) }
 
     ensures whole { IfOk result (λ r. r.whole ≡ length frames.entry.bytes.now
         - length (read_of frames.entry.seed (frames.entry.base + 1) frames.entry.bytes.now).rest) }
@@ -89,6 +99,14 @@ pub fn recover(
     ensures ending { IfOk result (λ r. MayEnd (read_of frames.entry.seed (frames.entry.base + 1) frames.entry.bytes.now).ending) }
     ensures fault { IfErr result (λ fault. IsTold fault frames.entry.base image.number
         (read_of frames.entry.seed (frames.entry.base + 1) frames.entry.bytes.now)) }
+
+    // A limit that refuses it is outside its range, or really passed.
+    ensures caused { IfErr result (IsCaused limits.recent limits.row_limit image.table.rows
+        (logged_since (decoded image.table.schema table) frames.entry.seed frames.entry.base image.number frames.entry.bytes.now)) }
+
+    // And a commit that it names is one of those since the image.
+    ensures named { IfErr result (λ fault. IsMisfit fault → IsNamed image.table.schema table
+        (frames_since frames.entry.seed frames.entry.base image.number frames.entry.bytes.now) fault) }
 
     // Wherever a crash fell: it is the table after the first commits, as many as the device said were safe, or more.
     ensures prefix { IfOk result (λ r. (t : Table) (commits : List Effects) (safe : ℕ)
@@ -134,6 +152,8 @@ fn opened(alloc: Global, image: Image, limits: Limits) -> Result<Manager, Recove
     ensures ok { IfOk result (λ manager. manager ≡ opened_at image.number image.table limits.row_limit limits.recent limits.conflicts) }
     ensures fault { IfErr result IsLate }
     ensures sound { IfErr result IsBlameless }
+    ensures caused { IfErr result (λ fault. (logged : List (List Entry))
+        → IsCaused limits.recent limits.row_limit image.table.rows logged fault) }
 {
     let Limits {
         row_limit,

@@ -1,6 +1,7 @@
 //! Logged commits, made again one after the other.
-ghost use Rattle.std.specs.Prelude.{◌≡◌, List, Ok, OnErr, OnOk, IfErr, length, map};
+ghost use Rattle.std.specs.Prelude.{◌≡◌, ℕ, List, Ok, OnErr, OnOk, IfErr, IsOk, length, map};
 ghost use Rattle.codec.specs.Reading.{decoded, entries_in};
+ghost use Rattle.journal.specs.Reading.{logged_in};
 ghost use Rattle.manager.specs.Managed.{newest_table};
 ghost use Rattle.model.specs.Effects.{AreOver, Effects, table_with};
 ghost use Rattle.model.specs.Entries.{canonical_entries};
@@ -8,7 +9,7 @@ ghost use Rattle.model.specs.Laws.{AreCommits};
 ghost use Rattle.model.specs.Merging.{merged_rows};
 ghost use Rattle.model.specs.Table.{rows_of};
 ghost use Rattle.replay.specs.Recovered.{IsLate};
-ghost use Rattle.replay.specs.Replayed.{AreSaid, IsMisfit, IsReplayed, fault_of_payload, rows_after};
+ghost use Rattle.replay.specs.Replayed.{AreRead, AreSaid, IsCaused, IsMisfit, IsNamed, IsNamedAt, IsReplayed, IsStopped, IsTooLarge, fault_of_payload, rows_after};
 
 use crate::fault::{CommitFault, RecoverFault};
 use crate::fitting::tree_over;
@@ -43,6 +44,14 @@ pub fn replay(
         (map (λ f. decoded manager.old.schema table f.payload.now) frames.now)) (length frames.now) manager.new) }
     ensures late { IfErr result IsLate }
 
+    // Each payload was read, and a limit that stops it is really passed.
+    ensures read { OnOk result (AreRead manager.old.schema table (map (λ f. f.payload.now) frames.now)) }
+    ensures caused { IfErr result (λ fault. (recent : ℕ) → IsCaused recent manager.old.start.limit (rows_of (newest_table manager.old))
+        (map (λ f. decoded manager.old.schema table f.payload.now) frames.now) fault) }
+
+    // A commit that a fault names is one of these.
+    ensures named { IfErr result (λ fault. IsMisfit fault → IsNamed manager.old.schema table (map logged_in frames.now) fault) }
+
     // Frames that say commits of the table are no misfit.
     ensures fits { IfErr result (λ fault. IsMisfit fault → (commits : List Effects)
         → AreCommits manager.old.schema (newest_table manager.old) commits
@@ -67,6 +76,10 @@ fn replay_frame(
     ensures ok { OnOk result (IsReplayed manager.old (merged_rows (rows_of (newest_table manager.old))
         (decoded manager.old.schema table frame.now.payload.now)) 1 manager.new) }
     ensures late { IfErr result IsLate }
+    ensures read { OnOk result (IsOk (entries_in manager.old.schema table frame.now.payload.now)) }
+    ensures stopped { IfErr result (IsStopped manager.old.start.limit (rows_of (newest_table manager.old))
+        (decoded manager.old.schema table frame.now.payload.now)) }
+    ensures named { IfErr result (λ fault. IsMisfit fault → IsNamedAt manager.old.schema table (logged_in frame.now) fault) }
     ensures table { OnOk result ((x : Effects) → AreOver manager.old.schema (newest_table manager.old) x
         → entries_in manager.old.schema table frame.now.payload.now ≡ Ok (canonical_entries (newest_table manager.old) x)
         → newest_table manager.new ≡ table_with (newest_table manager.old) x) }
@@ -126,6 +139,8 @@ pub fn replay_commit(
     ensures ok { OnOk result (IsReplayed manager.old (merged_rows (rows_of (newest_table manager.old)) entries.items) 1 manager.new) }
     ensures table { OnOk result ((x : Effects) → AreOver manager.old.schema (newest_table manager.old) x
         → entries.items ≡ canonical_entries (newest_table manager.old) x → newest_table manager.new ≡ table_with (newest_table manager.old) x) }
+    ensures full { IfErr result (λ fault. fault ≡ CommitFault.TooManyRows
+        → IsTooLarge manager.old.start.limit (rows_of (newest_table manager.old)) entries.items) }
     ensures misfit { IfErr result (λ fault. fault ≡ CommitFault.Misfit → (x : Effects)
         → AreOver manager.old.schema (newest_table manager.old) x → entries.items ≡ canonical_entries (newest_table manager.old) x → ⊥) }
     ensures err { OnErr result (manager.new ≡ manager.old) }

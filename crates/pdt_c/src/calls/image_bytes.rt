@@ -1,5 +1,5 @@
 //! The bytes that store a table, which C writes to files.
-ghost use Rattle.std.specs.Prelude.{◌≡◌, ◌≤◌, take, drop, length, IsSome, IfSome, None};
+ghost use Rattle.std.specs.Prelude.{◌≡◌, ◌-◌, min, take, drop, length, IsSome, IfSome, None};
 ghost use Rattle.pdt_c.specs.Stored.{bytes_at};
 
 use crate::byte_column::{ByteColumn, Slot};
@@ -96,6 +96,9 @@ pub extern "C" fn pdtr_image_read(
     requires { IsSome image.old.value }
     ensures kept { image.new.value ≡ image.old.value }
     ensures bytes { IfSome image.old.value (λ c. take result out.new ≡ take result (drop from (bytes_at c col))) }
+
+    // All that is there, as far as C's room goes.
+    ensures count { IfSome image.old.value (λ c. result ≡ min (length out.old) (length (bytes_at c col) - from)) }
 {
     let columns = image::take(alloc, image);
     let count = match columns.bytes.get(col) {
@@ -107,7 +110,7 @@ pub extern "C" fn pdtr_image_read(
 }
 
 fn copy_from(bytes: &[u8], from: usize, out: &mut [u8]) -> usize
-    ensures count { result ≤ length out.old }
+    ensures count { result ≡ min (length out.old) (length bytes.now - from) }
     ensures bytes { take result out.new ≡ take result (drop from bytes.now) }
 {
     if from > bytes.len() {

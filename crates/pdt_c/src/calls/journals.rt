@@ -11,7 +11,7 @@ ghost use Rattle.pdt_c.specs.Journals.{IsLong, IsPartOf, IsToldHeader};
 ghost use Rattle.pdt_c.specs.Stored.{bytes_at};
 ghost use Rattle.pdt_c.specs.declared.codes.TheConstants.{DONE, TOO_LONG};
 
-use crate::codes::{DONE, ROT, code_of_spelling};
+use crate::codes::{DONE, code_of_header, code_of_spelling};
 use crate::handles::decision::Decision;
 use crate::handles::image::{Columns, Image};
 use crate::handles::store::Store;
@@ -71,7 +71,8 @@ pub extern "C" fn pdtr_journal_header(salt: u64, store: u64, base: u64, out: &mu
     true
 }
 
-/// Tells what the header says that bytes begin with, or that they begin with none. Takes no memory.
+/// Gives what the header says that bytes begin with, or why they begin with none: `UNKNOWN_VERSION` where the version of the format is
+/// another one, so that its checks aren't known either, and `ROT` for every other fault. Takes no memory.
 #[unsafe(no_mangle)]
 pub extern "C" fn pdtr_journal_read(bytes: &[u8], header: &mut JournalHeader) -> u32
     ensures { IsToldHeader (header_in bytes.now) result header.old header.new }
@@ -85,7 +86,7 @@ pub extern "C" fn pdtr_journal_read(bytes: &[u8], header: &mut JournalHeader) ->
             };
             DONE
         }
-        Err(_) => ROT,
+        Err(fault) => code_of_header(fault),
     }
 }
 

@@ -1,11 +1,12 @@
 //! Opening a manager over an image and the journal of the commits since then.
 ghost use Rattle.std.specs.Prelude.{◌≡◌, ◌≢◌, ◌<◌, ◌^◌, ◌+◌, false, IfErr, IfOk, IfSome, IsSome, map};
+ghost use Rattle.inputs.specs.Input.{IsFaultOf};
+ghost use Rattle.inputs.specs.declared.fault.TableFault.TheVariants as table_fault;
 ghost use Rattle.journal.specs.Header.{seed_of};
-ghost use Rattle.journal.specs.Reading.{read_of};
 ghost use Rattle.manager.specs.Managed.{newest_number};
 ghost use Rattle.pdt_c.specs.Opening.{rule_of};
-ghost use Rattle.pdt_c.specs.Reopening.{IsImageIn, IsImageUnder, IsRefusal, IsRemadeOf, IsReopenedOn, IsUnder};
-ghost use Rattle.pdt_c.specs.declared.codes.TheConstants.{DONE, ROT, GAP};
+ghost use Rattle.pdt_c.specs.Reopening.{IsImageIn, IsImageUnder, IsRefusal, IsRemadeOf, IsReopenedOn, IsUnder, IsUnmade};
+ghost use Rattle.pdt_c.specs.declared.codes.TheConstants.{BAD_LIMIT, DONE, ROT, TOO_MANY_ROWS};
 
 use crate::calls::opening::rule_of;
 use crate::codes::{
@@ -73,8 +74,9 @@ pub extern "C" fn pdtr_reopen(
     ensures newest { result ≡ DONE → IfSome store.new.value (λ m. reopened.new.newest ≡ newest_number m) }
     ensures held { result ≡ DONE → IsSome store.new.value }
 
-    // No rot and no gap is passed over, and each is told with its commit.
-    ensures refused { result ≢ DONE → IsRefusal result reopened.new.fault base number (read_of (seed_of salt) (base + 1) frames.now) }
+    // No rot and no gap is passed over, and each code has its cause.
+    ensures refused { result ≢ DONE → IsRefusal header.now (map (λ c. c.now) columns.now) row_limit recent number table (seed_of salt) base
+        frames.now result reopened.new.fault }
     ensures kept { result ≢ DONE → store.new.value ≡ store.old.value }
 {
     let limits = Limits {
@@ -120,7 +122,8 @@ fn reopen(
 ) -> Result<Reopening, Refusal>
     ensures ok { IfOk result (λ r. IsReopenedOn header.now (map (λ c. c.now) columns.now) limits.row_limit limits.recent limits.conflicts
         number table (seed_of salt) base frames.now r.whole r.manager.value) }
-    ensures err { IfErr result (λ e. IsRefusal e.code e.commit base number (read_of (seed_of salt) (base + 1) frames.now)) }
+    ensures err { IfErr result (λ e. IsRefusal header.now (map (λ c. c.now) columns.now) limits.row_limit limits.recent number table
+        (seed_of salt) base frames.now e.code e.commit) }
 {
     let image = match image_in(alloc, header, columns) {
         Ok(image) => Image {
@@ -163,8 +166,8 @@ fn remade(
     ensures ok { IfOk result (λ r. IsRemadeOf image.table image.number table frames.entry.seed frames.entry.base frames.entry.bytes.now
         r.whole r.manager.value) }
     ensures under { IfOk result (λ r. IsUnder limits.row_limit limits.recent limits.conflicts r.manager.value) }
-    ensures err { IfErr result (λ e. IsRefusal e.code e.commit frames.entry.base image.number
-        (read_of frames.entry.seed (frames.entry.base + 1) frames.entry.bytes.now)) }
+    ensures err { IfErr result (λ e. IsUnmade image.table limits.row_limit limits.recent image.number table frames.entry.seed
+        frames.entry.base frames.entry.bytes.now e.code e.commit) }
 {
     match recover(alloc, image, limits, table, frames) {
         Ok(recovered) => counting(alloc, recovered),
@@ -178,7 +181,8 @@ fn remade(
 /// The image that columns store under the schema of a header.
 fn image_in(alloc: Global, header: &[u8], columns: &[&[u8]]) -> Result<StableTable, u32>
     ensures ok { IfOk result (λ image. IsImageIn header.now (map (λ c. c.now) columns.now) image) }
-    ensures err { IfErr result (λ code. (code ≢ DONE) × (code < ROT)) }
+    ensures err { IfErr result (λ code. (code ≢ DONE) × (code < ROT) × (code ≢ BAD_LIMIT)) }
+    ensures full { IfErr result (λ code. code ≡ TOO_MANY_ROWS → IsFaultOf header.now table_fault.TooManyRows) }
 {
     let empty = match load_table(alloc, header) {
         Ok(table) => table,
@@ -190,7 +194,7 @@ fn image_in(alloc: Global, header: &[u8], columns: &[&[u8]]) -> Result<StableTab
 /// The image that columns store under a schema.
 fn image_under(alloc: Global, schema: &Schema, columns: &[&[u8]]) -> Result<StableTable, u32>
     ensures ok { IfOk result (λ image. IsImageUnder schema.now (map (λ c. c.now) columns.now) image) }
-    ensures err { IfErr result (λ code. (code ≢ DONE) × (code < ROT)) }
+    ensures err { IfErr result (λ code. (code ≢ DONE) × (code < ROT) × (code ≢ BAD_LIMIT) × (code ≢ TOO_MANY_ROWS)) }
 {
     match read_store(alloc, schema, columns) {
         Ok(image) => {

@@ -1,8 +1,8 @@
 //! What keeps a table fast and small: folds, and cuts.
-ghost use Rattle.std.specs.Prelude.{◌≡◌, ◌≢◌, ◌⊎◌, [], IsSome, IfSome, Some, None};
+ghost use Rattle.std.specs.Prelude.{◌≡◌, ◌≢◌, ◌⊎◌, ◌++◌, [], IsSome, IfSome, Some, None};
 ghost use Rattle.circular_buffer.specs.Buffer.{buffer};
 ghost use Rattle.manager.specs.Kept.{kept_trees};
-ghost use Rattle.manager.specs.Managed.{cut_of, HasFolded};
+ghost use Rattle.manager.specs.Managed.{cut_of, cut_to_of, HasFolded};
 ghost use Rattle.pdt_c.specs.declared.codes.TheConstants.{DONE};
 
 use crate::codes::{DONE, NO_MEMORY};
@@ -98,6 +98,41 @@ pub extern "C" fn pdtr_cut_into(alloc: Global, store: &mut Store, room: &mut Tre
     let _history = manager.cut_into(&mut place);
     trees::put(room, place);
     store::put(store, manager);
+}
+
+/// Lets go of the trees of the commits up to this number, or of all of them: a transaction that began below it isn't decided any more,
+/// and any other is decided as before. Nothing changes where they are let go already. The trees are in the handle then, in the place of
+/// the room for as many as are kept. Takes the time that moving them takes, and no memory.
+#[unsafe(no_mangle)]
+pub extern "C" fn pdtr_cut_to(alloc: Global, store: &mut Store, number: u64, room: &mut Trees)
+    requires store { IsSome store.old.value }
+    requires held { IsSome room.old.value }
+    requires room { IfSome store.old.value (λ m. IfSome room.old.value (λ r. r.trees ≡ buffer [] m.start.recent)) }
+    ensures cut { IfSome store.old.value (λ m. store.new.value ≡ Some (cut_to_of number m)) }
+
+    // What is handed out stood before what is left.
+    ensures trees { IfSome store.old.value (λ m. IfSome room.new.value (λ r.
+        r.trees.items ++ kept_trees (cut_to_of number m) ≡ kept_trees m)) }
+    ensures kept { IsSome room.new.value }
+{
+    let mut manager = store::take(alloc, store);
+    let mut place = trees::take(alloc, room);
+    manager.cut_to(number, &mut place);
+    trees::put(room, place);
+    store::put(store, manager);
+}
+
+/// The number below which a transaction isn't decided any more where it began there: the trees of the commits up to it are let go.
+#[unsafe(no_mangle)]
+pub extern "C" fn pdtr_floor(alloc: Global, store: &mut Store) -> u64
+    requires { IsSome store.old.value }
+    ensures kept { store.new.value ≡ store.old.value }
+    ensures number { IfSome store.old.value (λ m. result ≡ m.floor) }
+{
+    let manager = store::take(alloc, store);
+    let floor = manager.floor();
+    store::put(store, manager);
+    floor
 }
 
 /// Lets the trees of a handle go, or the room.

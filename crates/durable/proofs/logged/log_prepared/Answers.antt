@@ -14,7 +14,7 @@ use Rattle.logging.specs.Log.{with_safe}
 use Rattle.txn.specs.Txn.{effects_of}
 use Rattle.manager.specs.Managed.{newest_number, newest_table, reply_due}
 use Rattle.durable.specs.declared.fault.CommitFault.TheVariants as CommitFault
-use Rattle.durable.specs.Durable.{IsReadAgain, IsUnlogged, log_with, logged_for, over, payload_for}
+use Rattle.durable.specs.Durable.{IsLong, IsReadAgain, IsUnlogged, log_with, logged_for, over, payload_for}
 use Rattle.manager.proofs.CallerLemmas.{grant_is, granted, granted_over, newest_few, same_number}
 use Rattle.durable.proofs.logged.log_prepared.Given.{Over}
 use Rattle.durable.proofs.logged.log_prepared.Goals.{After-schema-schema}
@@ -98,6 +98,13 @@ returns-in-Committed-clause-err g c =
     (λ (e : List Entry × ℕ). IfErr c.log_commit.result (λ fault. IsUnlogged fault
     (frame_bytes j.seed (logged_for c.args.table e.1 e.0)) j c.log_commit.new.journal))
     (λ i. (is.0 i, is.1 i)) c.log_commit.ensures.err
+
+pub returns-in-Committed-clause-long : goal.returns-in-Committed-clause-long
+returns-in-Committed-clause-long g c =
+    let before = (goal.at.returns-in-Committed-clause-long g c).After-schema-schema in
+    let is = tree_is g before in
+    subst (λ (e : List Entry × ℕ). IfErr c.log_commit.result (λ fault. fault ≡ CommitFault.TooLong → IsLong (logged_for c.args.table e.1 e.0)))
+    (λ i. (is.0 i, is.1 i)) c.log_commit.ensures.long
 
 pub returns-in-Committed-clause-unsure : goal.returns-in-Committed-clause-unsure
 returns-in-Committed-clause-unsure g c =

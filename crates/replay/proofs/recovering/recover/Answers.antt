@@ -1,7 +1,7 @@
 use Rattle.std.proofs.Common.{◌≡◌, ℕ, ◌+◌, ◌-◌, Result, Ok, Err, List, length, map, take, drop, sym, ap, ◌∙◌, subst, arith}
 use Rattle.std.specs.Prelude.{IfErr, IsErrAnd}
 use Rattle.values.specs.Shape.{Columns}
-use Rattle.std.proofs.lemmas.List.{length-map}
+use Rattle.std.proofs.lemmas.List.{length-drop, length-map}
 use Rattle.codec.specs.Reading.{decoded}
 use Rattle.journal.specs.declared.frame.Frame.{Frame}
 use Rattle.journal.specs.Reading.{Read, logged_in, read_of}
@@ -10,9 +10,12 @@ use Rattle.model.specs.Laws.{AreCommits}
 use Rattle.model.specs.Table.{Table, rows_of, table_of}
 use Rattle.model.proofs.CallerLemmas.{rows_of-table_of}
 use Rattle.manager.specs.Managed.{Managed, newest_number, newest_table}
-use Rattle.replay.specs.Recovered.{MayEnd, logged_since}
-use Rattle.replay.specs.Replayed.{AreSaid, rows_after}
-use Rattle.replay.proofs.RecoveryLemmas.{ends_well, frames_since, has_prefix, late_blameless, reaches_image, says_commits}
+use Rattle.replay.specs.Recovered.{MayEnd, frames_since as frames_behind, logged_since}
+use Rattle.values.specs.declared.row.Row.{Row}
+use Rattle.replay.specs.Replayed.{AreRead, AreSaid, IsCaused, IsMisfit, IsNamed, rows_after}
+use Rattle.replay.specs.declared.fault.RecoverFault.{RecoverFault}
+use Rattle.journal.specs.Frame.{Logged}
+use Rattle.replay.proofs.RecoveryLemmas.{ends_well, frames_left, frames_since, has_prefix, late_blameless, reaches_image, says_commits}
 use Rattle.replay.proofs.recovering.recover.Goals.{After-replay}
 use Rattle.replay.proofs.recovering.recover.Goals as goal
 
@@ -81,6 +84,87 @@ returns-clause-number c =
     sym (length-map _ _) ∙ ap (λ (es : List (List Entry)). length es) (since before) in
     c.in_ok-replay.ensures.ok.number ∙ (λ i. opened_number before i + count i)
 
+pub returns-clause-reached : goal.returns-clause-reached
+returns-clause-reached c =
+    let read : Read = read_of c.args.frames.seed (c.args.frames.base + 1) c.args.frames.bytes.now in
+    let count : length read.logged ≡ length c.in_ok-reading.reading.frames.items =
+    ap (λ (r : Read). length r.logged) (sym c.in_ok-reading.ensures) ∙ length-map c.in_ok-reading.reading.frames.items logged_in in
+    let found = c.in-Ok.ensures.ok in
+    record { from = found.0; upto = omega (arith, found.1, count, c.len.ensures) }
+
+pub returns-clause-newest : goal.returns-clause-newest
+returns-clause-newest c =
+    let before = (goal.at.returns-clause-newest c).After-replay in
+    let frames = c.args.frames in
+    let read : Read = read_of frames.seed (frames.base + 1) frames.bytes.now in
+    let j = c.args.image.number - frames.base in
+    let slice = take (length c.deref.result.now - c.in-Ok.skipped) (drop c.in-Ok.skipped c.deref.result.now) in
+    let payloads : length slice ≡ length (drop j read.logged) =
+    sym (length-map slice (λ (f : Frame). f.payload.now))
+    ∙ ap (λ (ps : List (List ℕ)). length ps) (those_since (λ (bytes : List ℕ). bytes) before)
+    ∙ length-map (drop j read.logged) (λ l. l.payload) in
+    let left = length-drop j read.logged in
+    let count : length read.logged ≡ length c.in_ok-reading.reading.frames.items =
+    ap (λ (r : Read). length r.logged) (sym c.in_ok-reading.ensures) ∙ length-map c.in_ok-reading.reading.frames.items logged_in in
+    let found = c.in-Ok.ensures.ok in
+    let opened = opened_number before in
+    let replayed = c.in_ok-replay.ensures.ok.number in
+    omega (arith, found.0, found.1, count, c.len.ensures, opened, replayed, payloads, left)
+
+pub returns-clause-read : goal.returns-clause-read
+returns-clause-read c =
+    let before = (goal.at.returns-clause-read c).After-replay in
+    let slice = take (length c.deref.result.now - c.in-Ok.skipped) (drop c.in-Ok.skipped c.deref.result.now) in
+    subst (λ (e : Columns × List (List ℕ)). AreRead e.0 c.args.table e.1)
+    (λ i. (opened_schema before i, those_since (λ (bytes : List ℕ). bytes) before i)) c.in_ok-replay.ensures.read
+
+-- what is passed on as an error is that error
+passed_on : {A E : Type 0} (r : Result A E) (x : E) (P : E → Type 0) → IsErrAnd r (λ y. y ≡ x) → P x → IfErr r P
+passed_on (Ok a) x P h p = tt
+passed_on (Err y) x P h p = subst P (sym h) p
+
+pub returns-in_err-manager-clause-caused : goal.returns-in_err-manager-clause-caused
+returns-in_err-manager-clause-caused c =
+    let image = c.args.image in
+    let logged = logged_since (decoded image.table.schema c.args.table) c.args.frames.seed c.args.frames.base image.number c.args.frames.bytes.now in
+    passed_on c.from_residual-in_err-manager.result c.in_err-manager.field-0.0
+    (IsCaused c.args.limits.recent c.args.limits.row_limit image.table.rows logged) c.from_residual-in_err-manager.ensures.1
+    (c.in_err-manager.ensures.caused logged)
+
+pub returns-in_err-replay-clause-caused : goal.returns-in_err-replay-clause-caused
+returns-in_err-replay-clause-caused c =
+    let before = (goal.at.returns-in_err-replay-clause-caused c).After-replay in
+    let image = c.args.image in
+    let logged = logged_since (decoded image.table.schema c.args.table) c.args.frames.seed c.args.frames.base image.number c.args.frames.bytes.now in
+    let slice = take (length c.deref.result.now - c.in-Ok.skipped) (drop c.in-Ok.skipped c.deref.result.now) in
+    let limit : c.in_ok-manager.manager.start.limit ≡ c.args.limits.row_limit = ap (λ (m : Managed). m.start.limit) c.in_ok-manager.ensures.ok in
+    let said : map (λ f. decoded c.in_ok-manager.manager.schema c.args.table f.payload.now) slice ≡ logged =
+    (λ i. map (λ f. decoded (opened_schema before i) c.args.table f.payload.now) slice) ∙ since before in
+    passed_on c.from_residual-in_err-replay.result c.in_err-replay.field-0.0
+    (IsCaused c.args.limits.recent c.args.limits.row_limit image.table.rows logged) c.from_residual-in_err-replay.ensures.1
+    (subst (λ (e : ℕ × (List Row × List (List Entry))). IsCaused c.args.limits.recent e.0 e.1.0 e.1.1 c.in_err-replay.field-0.0)
+    (λ i. (limit i, (opened_rows before i, said i))) (c.in_err-replay.ensures.caused c.args.limits.recent))
+
+-- the frames that are replayed are those since the image
+logged_slice : (c : After-replay) → map logged_in (take (length c.deref.result.now - c.in-Ok.skipped) (drop c.in-Ok.skipped c.deref.result.now))
+    ≡ frames_behind c.args.frames.seed c.args.frames.base c.args.image.number c.args.frames.bytes.now
+logged_slice c =
+    let read : Read = read_of c.args.frames.seed (c.args.frames.base + 1) c.args.frames.bytes.now in
+    let items = c.in_ok-reading.reading.frames.items in
+    ap (λ (fs : List Frame). map logged_in (take (length fs - c.in-Ok.skipped) (drop c.in-Ok.skipped fs))) c.deref.ensures.value
+    ∙ frames_left items c.in-Ok.skipped read (ap (λ (r : Read). r.logged) c.in_ok-reading.ensures)
+    ∙ ap (λ n. drop n read.logged) c.in-Ok.ensures.ok.2
+
+pub returns-in_err-replay-clause-named : goal.returns-in_err-replay-clause-named
+returns-in_err-replay-clause-named c =
+    let before = (goal.at.returns-in_err-replay-clause-named c).After-replay in
+    let image = c.args.image in
+    let since = frames_behind c.args.frames.seed c.args.frames.base image.number c.args.frames.bytes.now in
+    passed_on c.from_residual-in_err-replay.result c.in_err-replay.field-0.0
+    (λ (f : RecoverFault). IsMisfit f → IsNamed image.table.schema c.args.table since f) c.from_residual-in_err-replay.ensures.1
+    (λ misfit. subst (λ (e : Columns × List Logged). IsNamed e.0 c.args.table e.1 c.in_err-replay.field-0.0)
+    (λ i. (opened_schema before i, logged_slice before i)) (c.in_err-replay.ensures.named misfit))
+
 pub returns-clause-prefix : goal.returns-clause-prefix
 returns-clause-prefix c = λ t commits safe crashed image.
     let before = (goal.at.returns-clause-prefix c).After-replay in
@@ -122,11 +206,6 @@ returns-in-Err-clause-sound c = λ t commits safe crash said image.
     ≡ length c.in_ok-reading.reading.frames.items =
     ap (λ (r : Read). length r.logged) (sym c.in_ok-reading.ensures) ∙ length-map c.in_ok-reading.reading.frames.items logged_in in
     absurd (omega (arith, reach, short, count, c.len.ensures))
-
--- what is passed on as an error is that error
-passed_on : {A E : Type 0} (r : Result A E) (x : E) (P : E → Type 0) → IsErrAnd r (λ y. y ≡ x) → P x → IfErr r P
-passed_on (Ok a) x P h p = tt
-passed_on (Err y) x P h p = subst P (sym h) p
 
 -- and says commits over its table
 pub returns-in_err-replay-clause-sound : goal.returns-in_err-replay-clause-sound

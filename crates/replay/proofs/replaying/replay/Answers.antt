@@ -2,6 +2,8 @@ use Rattle.std.proofs.Common.{◌≡◌, ℕ, suc, ◌+◌, ◌<◌, Ok, List, [
 use Rattle.std.proofs.lemmas.List.{get_or-map, length-map}
 use Rattle.values.specs.Shape.{Columns}
 use Rattle.codec.specs.Reading.{decoded, entries_in}
+use Rattle.journal.specs.Frame.{Logged}
+use Rattle.journal.specs.Reading.{logged_in}
 use Rattle.journal.specs.declared.frame.Frame.{Frame}
 use Rattle.model.specs.Effects.{AreOver, Effects, table_with}
 use Rattle.model.specs.Entries.{canonical_entries}
@@ -10,8 +12,10 @@ use Rattle.model.specs.Laws.{AreCommits}
 use Rattle.model.specs.Table.{Table, rows_of}
 use Rattle.manager.specs.Managed.{Managed, newest_table}
 use Rattle.manager.proofs.CallerLemmas.{table_with_all-one}
-use Rattle.replay.specs.Replayed.{AreSaid}
-use Rattle.replay.proofs.ReplayLemmas.{replayed_more, said_at}
+use Rattle.std.specs.Prelude.{IsOk}
+use Rattle.values.specs.declared.row.Row.{Row}
+use Rattle.replay.specs.Replayed.{AreRead, AreSaid, IsNamedAt, IsStopped, rows_after}
+use Rattle.replay.proofs.ReplayLemmas.{are_read-append, first_more, named_at, past_at, replayed_more, said_at, stopped_caused}
 use Rattle.replay.proofs.replaying.replay.Goals as goal
 
 -- what stands where there is no frame
@@ -55,7 +59,42 @@ loop-frame-preserved c =
           let found = next m.schema c.args.table (newest_table m) c.args.frames.now i c.loop-frame-test.true c.loop-frame.manager
           before.0.schema before.1 commits h s in
           c.in_ok-fold_where_large-in-Ok.ensures.table ∙ c.in-Ok.ensures.table found.0 found.1 found.2 ∙ found.3,
+      (
+          let one : suc i ≡ i + 1 = omega arith in
+          let payload = (get_or c.args.frames.now i nothing).payload.now in
+          let is = subst (λ (s : Columns). IsOk (entries_in s c.args.table payload)) before.0.schema c.in-Ok.ensures.read in
+          subst (AreRead m.schema c.args.table)
+          (sym (first_more (λ (f : Frame). f.payload.now) c.args.frames.now i nothing c.loop-frame-test.true)
+          ∙ ap (λ n. map (λ (f : Frame). f.payload.now) (take n c.args.frames.now)) one)
+          (are_read-append m.schema c.args.table (map (λ (f : Frame). f.payload.now) (take i c.args.frames.now)) payload before.2 is)),
     )
+
+pub returns-in-Err-clause-caused : goal.returns-in-Err-clause-caused
+returns-in-Err-clause-caused c = λ recent.
+    let m = c.args.manager.now in
+    let before = c.loop-frame.invariant in
+    let i = c.loop-frame.frame-index in
+    let payload = (get_or c.args.frames.now i nothing).payload.now in
+    let rows = rows_of (newest_table m) in
+    let said = λ (f : Frame). decoded m.schema c.args.table f.payload.now in
+    let here = rows_after rows (map said (take i c.args.frames.now)) in
+    let is : IsStopped m.start.limit here (decoded m.schema c.args.table payload) c.in-Err.fault =
+    subst (λ (e : ℕ × (List Row × Columns)). IsStopped e.0 e.1.0 (decoded e.1.1 c.args.table payload) c.in-Err.fault)
+    (λ j. (before.0.limit j, (before.0.rows_are j, before.0.schema j))) c.in-Err.ensures.stopped in
+    stopped_caused recent m.start.limit rows here (decoded m.schema c.args.table payload) (map said c.args.frames.now) c.in-Err.fault is
+    (past_at said m.start.limit rows c.args.frames.now i nothing c.loop-frame-test.true)
+
+pub returns-in-Err-clause-named : goal.returns-in-Err-clause-named
+returns-in-Err-clause-named c = λ misfit.
+    let frames = c.args.frames.now in
+    let i = c.loop-frame.frame-index in
+    let lt = c.loop-frame-test.true in
+    let inside : i < length (map logged_in frames) = subst (λ n. i < n) (sym (length-map frames logged_in)) lt in
+    let here = subst (λ (s : Columns). IsNamedAt s c.args.table (logged_in (get_or frames i nothing)) c.in-Err.fault)
+    c.loop-frame.invariant.0.schema (c.in-Err.ensures.named misfit) in
+    named_at c.args.manager.now.schema c.args.table (map logged_in frames) i (logged_in nothing) c.in-Err.fault inside
+    (subst (λ (l : Logged). IsNamedAt c.args.manager.now.schema c.args.table l c.in-Err.fault)
+    (sym (get_or-map logged_in frames i nothing (logged_in nothing) lt)) here)
 
 pub returns-in-Err-clause-fits : goal.returns-in-Err-clause-fits
 returns-in-Err-clause-fits c = λ misfit commits h s.

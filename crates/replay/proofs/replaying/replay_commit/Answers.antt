@@ -1,6 +1,9 @@
-use Rattle.std.proofs.Common.{◌≡◌, List, Option, sym, ap, ◌∙◌, subst}
+use Rattle.std.proofs.Common.{◌≡◌, inr, List, Option, length, sym, ap, ◌∙◌, subst, arith}
+use Rattle.std.proofs.lemmas.List.{length-map}
 use Rattle.std.specs.Prelude.{IfSome}
 use Rattle.values.specs.Shape.{Columns}
+use Rattle.values.specs.declared.row.Row.{Row}
+use Rattle.model.specs.Effects.{table_with}
 use Rattle.model.specs.declared.entry.Entry.{Entry}
 use Rattle.model.specs.Merging.{merged_rows}
 use Rattle.model.specs.Table.{Table, rows_of}
@@ -44,3 +47,16 @@ returns-in-Ok-clause-ok c =
     let before = (goal.at.returns-in-Ok-clause-ok c).After-redo in
     subst (λ (es : List Entry). IsReplayed m (merged_rows (rows_of (newest_table m)) es) 1 c.redo.new.self) (entries before)
     (redone_replayed m c.redo.new.self c.in-Some.tree (layer before) c.merges_to_table.ensures (c.in-Ok.ensures.ok (layer before)))
+
+pub returns-in-Err-TooManyRows-clause-full : goal.returns-in-Err-TooManyRows-clause-full
+returns-in-Err-TooManyRows-clause-full c = λ same.
+    let m = c.args.manager.now in
+    let before = (goal.at.returns-in-Err-TooManyRows-clause-full c).After-redo in
+    let w = layer before in
+    let past = c.in-Err-TooManyRows.ensures.full c.in-Err-TooManyRows.field-0-is w in
+    let rows : merged_rows (rows_of (newest_table m)) c.args.entries.items ≡ rows_of (table_with (newest_table m) w.effects) =
+    ap (merged_rows (rows_of (newest_table m))) (sym (entries before) ∙ w.entries)
+    ∙ c.merges_to_table.ensures m.schema (newest_table m) w.effects w.over in
+    let count : length (merged_rows (rows_of (newest_table m)) c.args.entries.items) ≡ length (table_with (newest_table m) w.effects) =
+    ap (λ (rs : List Row). length rs) rows ∙ length-map _ _ in
+    inr (omega (arith, past, count))

@@ -8,6 +8,6 @@ returns-in-Err-logged-clause-err g c = (
       (λ (o : Durable). IsLeftOut o c.args.txn c.in-Err-logged.fault
       (over c.self.inside.manager c.log_prepared-logged.new.journal c.self.inside.table))
       c.self.view_is
-      (record { manager = refl; table = refl; log = c.in-Err-logged.ensures.err; frame = c.in-Err-logged.ensures.unsure }),
+      (record { manager = refl; table = refl; log = c.in-Err-logged.ensures.err; frame = c.in-Err-logged.ensures.unsure; long = c.in-Err-logged.ensures.long }),
   refl,
 )
