@@ -51,7 +51,8 @@ typedef struct {
   int failed; /* what get_next answers once the batches that were read are handed out */
   struct ArrowArray *read;
   size_t first, many, room;
-  char error[256];
+  char error[256];       /* why a batch can't be read */
+  const char *last_error; /* of the last call of the stream's, or null */
   pdti_shown columns[];
 } pdti_scan;
 
@@ -69,7 +70,10 @@ typedef struct {
   pdti_format index; /* of a dictionary: how its indices lie */
   bool has_dictionary;
   bool is_left_out;  /* its cells are passed over */
-  bool takes_nulls;  /* as the least number */
+  bool is_nullable;  /* its field says so */
+  bool takes_nulls;  /* as the least number, which no other cell is then */
+  bool may_have_least;     /* where it has no null, it may have that number */
+  bool has_null, has_least; /* of these columns, so far */
   int64_t *numbers;
   uint64_t *offsets;
   uint8_t *bytes;

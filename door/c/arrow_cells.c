@@ -232,11 +232,16 @@ static int take_indexed(pdti_gathering *all, size_t at, const struct ArrowArray 
 
 /* Puts the least number where a cell is null, which no other is then. */
 static int put_nulls(pdti_gathering *all, size_t at, const void *bits, uint64_t from, size_t rows) {
-  int64_t *numbers = all->columns[at].numbers + all->rows;
+  pdti_gathered *column = &all->columns[at];
+  int64_t *numbers = column->numbers + all->rows;
   for (size_t row = 0; row < rows; row++) {
     bool is_there = !bits || is_set(bits, from + row);
-    if (is_there && numbers[row] == INT64_MIN) return pdti_tell_cell(all, at, row, "the number that stands for a null");
-    if (!is_there) numbers[row] = INT64_MIN;
+    if (is_there && numbers[row] != INT64_MIN) continue;
+    column->has_least |= is_there;
+    column->has_null |= !is_there;
+    bool is_clear = !column->has_least || (column->may_have_least && !column->has_null);
+    if (!is_clear) return pdti_tell_cell(all, at, row, is_there ? "the number that stands for a null" : "a null beside its number");
+    numbers[row] = INT64_MIN;
   }
   return PDT_OK;
 }

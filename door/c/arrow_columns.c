@@ -21,7 +21,7 @@ int pdti_tell(pdt_arrow_fault *fault, int code, uint64_t row, uint64_t column, c
 
 int pdti_clear_fault(pdt_arrow_fault *fault) {
   if (!fault) return PDT_OK;
-  if (fault->size < sizeof *fault) return PDT_MISUSE;
+  if (pdti_may_fill(fault, sizeof *fault)) return PDT_MISUSE;
   fault->place = (pdt_place){0, 0};
   *fault->cause = 0;
   return PDT_OK;
@@ -65,6 +65,7 @@ static int take_field(pdti_gathering *all, size_t at, const struct ArrowSchema *
   if (code) return code;
   const struct ArrowSchema *values = field->dictionary ? field->dictionary : field;
   column->has_dictionary = field->dictionary;
+  column->is_nullable = field->flags & ARROW_FLAG_NULLABLE;
   snprintf(column->format, sizeof column->format, "%s", values->format ? values->format : "");
   bool is_taken = pdti_read_format(values->format, &column->as);
   if (is_taken && column->has_dictionary)

@@ -82,5 +82,7 @@ bool pdti_means(const char *format, const char *other) {
   if (!pdti_read_format(format, &one) || !pdti_read_format(other, &two) || one.kind != two.kind) return false;
   if (one.kind == PDTI_DECIMALS) return scale_of(format) == scale_of(other);
   bool is_time = strlen(format) >= 3 || strlen(other) >= 3;
-  return one.kind != PDTI_NUMBERS || !is_time || !strncmp(format, other, 3);
+  if (one.kind != PDTI_NUMBERS || !is_time) return true;
+  bool is_timestamp = !strncmp(format, "ts", 2); /* in any zone it is counted from one moment, and without a zone from a local one */
+  return !strncmp(format, other, 3) && (!is_timestamp || !format[4] == !other[4]);
 }

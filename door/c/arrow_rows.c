@@ -159,8 +159,9 @@ static int apply_batches(applying *apply, pdti_gathering *all, struct ArrowArray
 static int compare_meanings(const applying *apply, pdti_gathering *all) {
   for (size_t column = 0; column < apply->width; column++) {
     pdti_gathered *in = &all->columns[apply->place[column]];
-    const char *declared = pdt_declared(apply->txn->store, column);
-    if (!declared) continue;
+    char declared[PDTI_FORMAT_BYTES];
+    pdti_copy_declared(apply->txn->store, column, declared);
+    if (!*declared) continue;
     in->takes_nulls = *declared == '?';
     bool is_integer = in->as.kind == PDTI_NUMBERS && strlen(in->format) == 1;
     if (!is_integer && !pdti_means(declared, in->format))

@@ -39,16 +39,23 @@ typedef struct {
   struct ArrowSchema field[PDT_MAX_COLUMNS];
 } fields;
 
+/* Fails a call without a word on the batches: what is said of one that can't be read is still to be told. */
+static int no_memory(pdti_scan *from) {
+  from->last_error = "memory was refused";
+  return ENOMEM;
+}
+
 static int get_schema(struct ArrowArrayStream *stream, struct ArrowSchema *out) {
   pdti_scan *from = stream->private_data;
   fields *all = malloc(sizeof *all);
   *out = (struct ArrowSchema){0};
-  if (!all) return pdti_no_stream_memory(from);
+  from->last_error = NULL;
+  if (!all) return no_memory(from);
   *out = (struct ArrowSchema){.format = "+s", .name = "", .children = all->at, .release = release_schema, .private_data = all};
   for (size_t i = 0; i < from->count; i++) {
     if (!fill_field(&from->columns[i], &all->field[i])) {
       release_schema(out);
-      return pdti_no_stream_memory(from);
+      return no_memory(from);
     }
     all->at[i] = &all->field[i];
     out->n_children++;
@@ -61,16 +68,19 @@ static int get_schema(struct ArrowArrayStream *stream, struct ArrowSchema *out) 
 static int get_next(struct ArrowArrayStream *stream, struct ArrowArray *batch) {
   pdti_scan *out = stream->private_data;
   *batch = (struct ArrowArray){0};
+  out->last_error = NULL;
   if (out->first < out->many) {
     *batch = out->read[out->first++];
     return 0;
   }
-  return out->txn ? pdti_read_batch(out, batch) : out->failed;
+  int code = out->txn ? pdti_read_batch(out, batch) : out->failed;
+  if (code) out->last_error = out->error;
+  return code;
 }
 
 static const char *get_last_error(struct ArrowArrayStream *stream) {
   pdti_scan *out = stream->private_data;
-  return *out->error ? out->error : NULL;
+  return out->last_error;
 }
 
 static void free_scan(pdti_scan *out) {
@@ -91,8 +101,9 @@ static bool show(const pdt_store *store, const pdt_arrow_column *asked, pdti_sho
   static const char *const of_type[] = {NULL, "l", "U", "b"};
   int type = pdt_column_type(store, asked->column);
   if (!type) return false;
-  const char *declared = pdt_declared(store, asked->column);
-  const char *format = asked->format ? asked->format : declared ? declared : of_type[type];
+  char declared[PDTI_FORMAT_BYTES];
+  pdti_copy_declared(store, asked->column, declared);
+  const char *format = asked->format ? asked->format : *declared ? declared : of_type[type];
   if (*format == '?') {
     if (type != PDT_INT) return false;
     column->is_nullable = true;

@@ -2,6 +2,8 @@
 #include "arrow.h"
 #include "database.h"
 
+#include <stdio.h>
+
 enum { MOST_KEYS = 4 };
 
 /* What a table is made of: gathered columns, those of the key first. */
@@ -27,6 +29,14 @@ static size_t find(const pdti_gathering *all, const char *name) {
   return at;
 }
 
+/* Columns of numbers whose field may have nulls take them, as the least number; but for those of the key. */
+static void take_nulls(making *make) {
+  for (size_t i = make->keys; i < make->all->count; i++) {
+    pdti_gathered *in = &make->all->columns[make->order[i]];
+    in->takes_nulls = in->may_have_least = in->is_nullable && in->as.type == PDT_INT;
+  }
+}
+
 /* Puts the columns of the key first. */
 static int order_columns(making *make, const char *const *key, size_t keys) {
   pdti_gathering *all = make->all;
@@ -44,6 +54,7 @@ static int order_columns(making *make, const char *const *key, size_t keys) {
   make->keys = keys;
   for (size_t at = 0, next = keys; at < all->count; at++)
     if (!is_key[at]) make->order[next++] = at;
+  take_nulls(make);
   return PDT_OK;
 }
 
@@ -144,13 +155,21 @@ static int permute(pdti_gathered *column, const uint32_t *rows, size_t count) {
 
 /* ---- the table */
 
+/* What a column is declared as that came in so: nothing where it came in as integers, none of which may be a null. */
+static void format_of(const pdti_gathered *in, char *format) {
+  bool is_integer = in->as.kind == PDTI_NUMBERS && strlen(in->format) == 1, takes_nulls = in->takes_nulls && !in->has_least;
+  const char *as = in->as.kind == PDTI_DOUBLES ? "g" : is_integer ? "l" : in->format;
+  *format = 0;
+  if (is_integer && !takes_nulls) return;
+  if (strlen(as) + 2 <= PDTI_FORMAT_BYTES) sprintf(format, "%s%s", takes_nulls ? "?" : "", as);
+}
+
 /* Declares the columns that came in as something else than integers. */
 static void declare(const making *make, pdt_store *store) {
   for (size_t column = 0; column < store->width; column++) {
-    const pdti_gathered *in = &make->all->columns[make->order[column]];
-    const char *format = in->as.kind == PDTI_DOUBLES ? "g" : in->format;
-    bool is_integer = in->as.kind == PDTI_NUMBERS && strlen(format) == 1, is_whole = strlen(format) < sizeof in->format - 1;
-    if (!is_integer && is_whole && pdti_may_declare(store, column, format)) strcpy(store->declared[column], format);
+    char format[PDTI_FORMAT_BYTES];
+    format_of(&make->all->columns[make->order[column]], format);
+    if (*format && pdti_may_declare(store, column, format)) strcpy(store->declared[column], format);
   }
 }
 

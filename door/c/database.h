@@ -46,19 +46,23 @@ struct pdti_table {
   pdt_options options;
   size_t width;
   table_image image; /* that the manifest names; under files_lock */
+  bool is_imaged;    /* the upkeep writes an image of it, without that lock: it isn't dropped meanwhile */
 };
 
 struct pdt_database {
   pdti_locks locks; /* of all its tables */
   int dir, lock_file;
+  bool has_made_lock, locks_none; /* whether this opening has made that file; and whether the folder can't be locked beside it */
   uint64_t name, salt;
   pdt_database_options options; /* as they are, with no zeros */
   pid_t process;                /* which opened it */
   const volatile bool *is_ours; /* whether this is that one: on a page that the kernel wipes in a child, or null where it can't */
 
-  /* changed under round_lock and both of `locks` and with the turn, and read with any of the four */
+  /* changed under files_lock and both of `locks` and with the turn, and read with any of the four */
   pdti_table **tables;
-  replaced *replaced; /* one for each of the tables that there is room for: of who has the turn */
+  pdt_store **batch;  /* the tables that the commits of a batch have changed, and what is replaced of each: of the thread that has */
+  replaced *replaced; /* the turn, with room for all tables */
+  size_t batch_count;
   size_t count, room;
   atomic_size_t works; /* how many are open */
 
@@ -67,6 +71,7 @@ struct pdt_database {
   buffer pending;    /* the frames that nobody has written yet, each without its head: room for it, then its payload */
   size_t staged;     /* how many bytes after those are a frame that isn't one yet */
   bool takes_none;   /* the device has failed */
+  pdt_store *changed; /* the tables with commits that no batch has taken yet, where begins see them once they are safe */
 
   /* of who has the turn */
   buffer writing;
@@ -89,8 +94,10 @@ struct pdt_database {
 
   /* the manifest, and the files that it names */
   pthread_mutex_t files_lock;
+  pthread_cond_t image_ends; /* that was written without it */
   uint32_t next_table;
   uint64_t next_folder;
+  uint64_t noted;       /* the number that the manifest has: a commit that is safe */
 
   /* the upkeep */
   pthread_t thread, syncer; /* the second where a commit is answered before the device has it */
@@ -99,6 +106,10 @@ struct pdt_database {
   pthread_cond_t upkeep_wakes;
   bool stops;
   pthread_mutex_t round_lock; /* one round at a time */
+  uint64_t quiet_at;            /* the newest safe commit of the last round, and since when it is that; under files_lock, as the rest */
+  struct timespec quiet_since;
+  bool is_rested;               /* the last round found nothing to do, at these numbers */
+  uint64_t rested_newest, rested_safe;
   atomic_uint_fast64_t folds, images, faults;
 };
 
@@ -109,6 +120,10 @@ struct pdt_database {
 int pdti_stage(pdt_database *database, pdt_txn *const *txns, size_t count);
 /* Makes it one of them, and answers its number. Nothing of it can fail. */
 uint64_t pdti_append(pdt_database *database);
+/* Whether begins see a commit only once it is safe. */
+bool pdti_hides(const pdt_database *database);
+/* Enters a table that a commit has changed among those whose versions the next batch takes. Under the lock. */
+void pdti_enter_changed(pdt_database *database, pdt_store *store);
 
 /* Waits until a commit is as safe as the database's sync says. PDT_UNSURE where the device fails. */
 int pdti_wait_for(pdt_database *database, uint64_t number);
@@ -128,7 +143,9 @@ int pdti_turn_over(pdt_database *database);
 
 /* The first file of the journal that an image wants, where the oldest one has the commits up to a number: 0 where that file is gone. */
 uint64_t pdti_first_wanted(pdt_database *database, uint64_t oldest);
-/* Takes away the files before it. */
+/* The first file that is there. */
+uint64_t pdti_first_file(pdt_database *database);
+/* Takes away the files before one. */
 void pdti_remove_journals(pdt_database *database, uint64_t first);
 
 /* No commit is taken any more. */
@@ -136,7 +153,7 @@ void pdti_fail(pdt_database *database);
 
 /* ---- images.c */
 
-/* Writes an image of a table into a folder of its own: where it is, how long its files are and their checks. With files_lock held. */
+/* Writes an image of a table into the folder whose number it has, which no other has had: how long its files are and their checks. */
 int pdti_write_image(pdt_database *database, const pdti_table *entry, handle *bytes, table_image *image);
 
 /* Reads the image that the manifest names, tests its checks, and opens it with the journal's frames. *file is the one that a code is
@@ -148,22 +165,29 @@ void pdti_remove_image(pdt_database *database, uint64_t table, uint64_t folder);
 
 /* ---- manifest.c */
 
-/* Writes the manifest anew, with the tables and one more, if it is not null, after a commit that is safe. What it named before is named
-   no longer once it answers PDT_OK. Where it answers otherwise *in_doubt, if not null, says whether either may be: it came to the rename
-   then. Else the one before stays. PDT_GAP, and nothing is written, where an image is from before the first file of the journal: no
-   opening would take it. With files_lock held. */
+/* Writes the manifest anew, with the tables and one more, if it is not null, after a commit that is safe: its number is that of the
+   newest one that is known to be. What it named before is named no longer once it answers PDT_OK. Where it answers otherwise *in_doubt,
+   if not null, says whether either may be: it came to the rename then. Else the one before stays. PDT_GAP, and nothing is written, where
+   an image is from before the first file of the journal: no opening would take it. With files_lock held. */
 int pdti_write_manifest(pdt_database *database, uint64_t number, const pdti_table *added, bool *in_doubt);
 
 /* Reads the manifest: the names, the number that it is of, the first file of the journal that it wants, and the tables, which have no
    store yet. PDT_MISSING where there is none. */
 int pdti_read_manifest(pdt_database *database, uint64_t *number, uint64_t *first);
 
-/* Takes away the images that the manifest doesn't name. With files_lock held. */
+/* Has the manifest note the newest commit that is safe, where it notes an older one: an opening that finds fewer reports damage. With
+   files_lock held, or where nobody else has the database any more. */
+int pdti_note_safe(pdt_database *database);
+
+/* Takes away the images that the manifest doesn't name, in an opening. */
 void pdti_remove_images(pdt_database *database);
 
 /* ---- folders.c: files by their names in the database's folder */
 
+/* Opens a file, or makes it where there is none, by the database's mode. A link isn't followed, but of AT_FDCWD. */
 int pdti_open_in(int dir, const char *name, int how);
+int pdti_make_in(const pdt_database *database, int dir, const char *name, int how);
+mode_t pdti_folder_mode(mode_t mode); /* of a folder of files of a mode */
 int pdti_sync(int file);      /* the data, and how long it is */
 int pdti_sync_in(int dir);    /* the names */
 int pdti_read_in(int dir, const char *name, buffer *into);
@@ -174,6 +198,14 @@ void pdti_remove_in(int dir, const char *name); /* and leaves errno as it is */
 typedef void (*pdti_each)(void *context, const char *name, uint64_t first, uint64_t second);
 int pdti_names(int dir, const char *front, pdti_each each, void *context);
 
+/* ---- torn.c: what is torn off a journal's end */
+
+/* Whether bytes that begin with a torn frame have a whole one behind it, of a commit after the newest one that is taken. */
+bool pdti_has_frames(uint64_t salt, uint64_t newest, const uint8_t *torn, size_t len);
+
+/* Keeps them in a file, for whose name there is room for FILE_NAME bytes. */
+int pdti_keep_torn(const pdt_database *database, uint64_t seq, const uint8_t *torn, size_t len, char *name);
+
 /* ---- upkeep.c */
 
 int pdti_start_upkeep(pdt_database *database);
@@ -181,14 +213,23 @@ void pdti_stop_upkeep(pdt_database *database);
 
 /* ---- recovering.c */
 
-/* Makes the folder where it isn't there. */
-int pdti_make_folder(const char *folder);
+/* Makes the folder where it isn't there, and says whether it did. */
+int pdti_make_folder(const char *folder, mode_t mode, bool *is_new);
 
-/* Locks it for this opening, and the file `lock` in it. PDT_LOCKED, PDT_IO. */
+/* Locks it for this opening, and the file `lock` in it: with others that only read, or alone. PDT_LOCKED, PDT_IO. */
 int pdti_lock_folder(pdt_database *database);
+
+/* Whether another process may have the database too: the file `lock` was taken away by hand, and the folder itself can't be locked. */
+bool pdti_has_lost_lock(const pdt_database *database);
+
+/* Takes away what an opening that fails has made: its lock file, and with all that is in it the folder, where that is not null. */
+void pdti_remove_new(pdt_database *database, const char *folder);
 
 /* Begins the journal of a new database, under its name: a salt that is drawn, and a file with no bytes. */
 int pdti_begin_journal(pdt_database *database);
+
+/* Whether the bytes of a file begin with a journal's header of a later version, and aren't damaged there. */
+bool pdti_is_newer_header(const buffer *bytes);
 
 /* Opens what is in it, or makes it new. */
 int pdti_open_folder(pdt_database *database, pdt_report *report);
@@ -207,7 +248,7 @@ void pdti_remove_run(pdt_database *database);
 
 /* ---- tables.c */
 
-/* Writes the first image of a table. With files_lock held, or where nobody else has the database yet. */
+/* Writes the first image of a table, which has the number of its folder. */
 int pdti_write_first(pdt_database *database, pdti_table *entry);
 
 /* Whether a table may be made under a name, and where it is handed out; *store is null then. */
@@ -223,7 +264,7 @@ int pdti_create_table(pdt_database *database, const char *name, const pdt_option
 
 /* ---- declared.c: what the numbers of a table's columns are declared as, in a file of its own */
 
-/* Writes it for a table that is made, before its image, with whose name its own is safe. With files_lock held. */
+/* Writes it for a table that is made, before its image, with whose name its own is safe. */
 int pdti_write_types(pdt_database *database, const pdti_table *entry);
 
 /* Reads it, if it is there; its name goes into file, which has room for FILE_NAME bytes. PDT_ROT. */
@@ -241,8 +282,21 @@ void pdti_free_entry(pdti_table *entry);
 
 /* Makes the store of a table one of a database's, once it has room for the numbers that its last commits have there. The number that it
    begins with is of a commit that is safe. */
-int pdti_make_room_for_numbers(pdt_store *store);
 void pdti_attach(pdt_database *database, pdti_table *entry, uint64_t number);
+
+/* ---- history.c: what is kept of the last commits */
+
+/* Makes room for the numbers of a table's last commits, and for what they take. */
+int pdti_make_room_for_numbers(pdt_store *store);
+
+/* Keeps what a commit takes, whose part of its frame has so many bytes. Under the lock, as is the next. */
+void pdti_keep(pdt_store *store, uint64_t local, size_t bytes);
+
+/* How many bytes of memory, about, the changes of a table's last commits take. */
+uint64_t pdti_kept_bytes(pdt_store *store);
+
+/* Lets go of the oldest of them, where all tables' take more than the database's option says. PDT_NOMEM. With files_lock held. */
+int pdti_let_go_of_oldest(pdt_database *database);
 
 /* Whether this thread has a commit prepared: then it has the lock, and waits for nobody who may wait for that. */
 bool pdti_has_prepared(pdt_database *database);

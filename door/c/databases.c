@@ -8,19 +8,23 @@
 
 /* ---- options and reports */
 
-static int options_of(const pdt_database_options *given, pdt_database_options *options) {
-  *options = (pdt_database_options){sizeof *options, PDT_SYNC_FULL, false, false, 1024, 10000, 64 << 20};
-  if (!given) return PDT_OK;
-  if (given->size < sizeof *given) return PDT_MISUSE;
-  for (size_t at = sizeof *given; at < given->size; at++)
-    if (((const uint8_t *)given)[at]) return PDT_MISUSE;
+static int options_of(const pdt_database_options *from, pdt_database_options *options) {
+  *options = (pdt_database_options){.size = sizeof *options, .fold_entries = 1024, .checkpoint_entries = 10000,
+                                    .journal_bytes = 64 << 20, .kept_bytes = 256 << 20, .mode = 0666};
+  if (!from) return PDT_OK;
+  pdt_database_options asked, *given = &asked;
+  if (pdti_take_struct(given, sizeof *given, from, offsetof(pdt_database_options, kept_bytes))) return PDT_MISUSE;
   if (given->sync < PDT_SYNC_FULL || given->sync > PDT_SYNC_OFF) return PDT_MISUSE;
   options->sync = given->sync;
+  if (given->mode > 0777) return PDT_MISUSE;
   options->early_reads = given->early_reads;
-  options->no_upkeep = given->no_upkeep;
+  options->read_only = given->read_only;
+  options->no_upkeep = given->no_upkeep || given->read_only;
+  if (given->mode) options->mode = given->mode;
   if (given->fold_entries) options->fold_entries = given->fold_entries;
   if (given->checkpoint_entries) options->checkpoint_entries = given->checkpoint_entries;
   if (given->journal_bytes) options->journal_bytes = given->journal_bytes;
+  if (given->kept_bytes) options->kept_bytes = given->kept_bytes;
   return PDT_OK;
 }
 
@@ -30,16 +34,20 @@ int pdti_reserve_entry(pdt_database *database) {
   if (database->count < database->room) return PDT_OK;
   size_t room = database->room ? 2 * database->room : 16;
   pdti_table **tables = malloc(room * sizeof *tables);
+  pdt_store **batch = malloc(room * sizeof *batch);
   replaced *versions = malloc(room * sizeof *versions);
-  if (!tables || !versions) {
+  if (!tables || !batch || !versions) {
     free(tables);
+    free(batch);
     free(versions);
     return PDT_NOMEM;
   }
   if (database->count) memcpy(tables, database->tables, database->count * sizeof *tables);
   free(database->tables);
+  free(database->batch);
   free(database->replaced);
   database->tables = tables;
+  database->batch = batch;
   database->replaced = versions;
   database->room = room;
   return PDT_OK;
@@ -85,6 +93,7 @@ static void unlock(int file) {
 static void free_database(pdt_database *database) {
   for (size_t i = 0; i < database->count; i++) pdti_free_entry(database->tables[i]);
   free(database->tables);
+  free(database->batch);
   free(database->replaced);
   free(database->pending.at);
   free(database->writing.at);
@@ -99,16 +108,16 @@ static void free_database(pdt_database *database) {
 /* Makes the locks, or none of them. */
 static int make_locks(pdt_database *database) {
   pthread_mutex_t *plain[] = {&database->turn_lock, &database->files_lock, &database->upkeep_lock, &database->round_lock};
-  pthread_cond_t *conditions[] = {&database->turn_ends, &database->upkeep_wakes};
+  pthread_cond_t *conditions[] = {&database->turn_ends, &database->upkeep_wakes, &database->image_ends};
   size_t locks = 0, waits = 0;
   while (locks < 4 && !pthread_mutex_init(plain[locks], NULL)) locks++;
   pthread_condattr_t kind;
   if (locks == 4 && !pthread_condattr_init(&kind)) {
     int bad = pthread_condattr_setclock(&kind, CLOCK_MONOTONIC);
-    while (!bad && waits < 2 && !pthread_cond_init(conditions[waits], &kind)) waits++;
+    while (!bad && waits < 3 && !pthread_cond_init(conditions[waits], &kind)) waits++;
     pthread_condattr_destroy(&kind);
   }
-  if (waits == 2 && !pdti_make_locks(&database->locks)) return PDT_OK;
+  if (waits == 3 && !pdti_make_locks(&database->locks)) return PDT_OK;
   while (waits) pthread_cond_destroy(conditions[--waits]);
   while (locks) pthread_mutex_destroy(plain[--locks]);
   return PDT_NOMEM;
@@ -118,15 +127,11 @@ static void destroy_locks(pdt_database *database) {
   pdti_destroy_locks(&database->locks);
   pthread_cond_destroy(&database->turn_ends);
   pthread_cond_destroy(&database->upkeep_wakes);
+  pthread_cond_destroy(&database->image_ends);
   pthread_mutex_destroy(&database->turn_lock);
   pthread_mutex_destroy(&database->files_lock);
   pthread_mutex_destroy(&database->upkeep_lock);
   pthread_mutex_destroy(&database->round_lock);
-}
-
-int pdti_make_room_for_numbers(pdt_store *store) {
-  store->made_by = calloc(store->recent + 1, sizeof *store->made_by);
-  return store->made_by ? PDT_OK : PDT_NOMEM;
 }
 
 void pdti_attach(pdt_database *database, pdti_table *entry, uint64_t number) {
@@ -139,9 +144,13 @@ void pdti_attach(pdt_database *database, pdti_table *entry, uint64_t number) {
   pdti_number(store, pdtr_commits(&store->raw), number);
 }
 
-void pdti_number(pdt_store *store, uint64_t local, uint64_t number) {
-  store->made_by[local % (store->recent + 1)] = number;
-  store->newest = number;
+/* Opens a database in a folder that is there. */
+static int open_in(pdt_database *database, const char *folder, pdt_report *found) {
+  database->dir = pdti_open_in(AT_FDCWD, folder, O_RDONLY | O_DIRECTORY);
+  if (database->dir < 0) return database->options.read_only && errno == ENOENT ? PDT_MISSING : PDT_IO;
+  int code = pdti_lock_folder(database);
+  if (!code) code = pdti_open_folder(database, found);
+  return code ? code : pdti_start_upkeep(database);
 }
 
 pdt_code pdt_database_open(const char *folder, const pdt_database_options *options, pdt_database **out, pdt_report *told) {
@@ -149,7 +158,7 @@ pdt_code pdt_database_open(const char *folder, const pdt_database_options *optio
   *out = NULL;
   pdt_report found = {.size = sizeof found};
   pdt_database_options asked;
-  if (!folder || !*folder || (told && told->size < sizeof *told) || options_of(options, &asked)) return PDT_MISUSE;
+  if (!folder || !*folder || (told && pdti_may_fill(told, sizeof *told)) || options_of(options, &asked)) return PDT_MISUSE;
   pdt_database *database = calloc(1, sizeof *database);
   if (!database) return PDT_NOMEM;
   database->dir = database->lock_file = database->file = database->next_file = -1;
@@ -161,20 +170,14 @@ pdt_code pdt_database_open(const char *folder, const pdt_database_options *optio
     return code;
   }
   make_page(database);
-  code = pdti_make_folder(folder);
-  if (!code && (database->dir = pdti_open_in(AT_FDCWD, folder, O_RDONLY | O_DIRECTORY)) < 0) code = PDT_IO;
-  if (!code) code = pdti_lock_folder(database);
-  if (!code) code = pdti_open_folder(database, &found);
-  if (!code) code = pdti_start_upkeep(database);
-  if (told) {
-    size_t size = told->size;
-    memset(told, 0, size);
-    memcpy(told, &found, sizeof found);
-    told->size = size;
-  }
+  bool is_new = false;
+  code = asked.read_only ? PDT_OK : pdti_make_folder(folder, asked.mode, &is_new);
+  if (!code) code = open_in(database, folder, &found);
+  if (told) pdti_fill_struct(told, &found, sizeof found);
   if (code) {
     int why = errno;
     destroy_locks(database);
+    pdti_remove_new(database, is_new ? folder : NULL);
     free_database(database);
     errno = why;
     return code;
@@ -208,6 +211,7 @@ pdt_code pdt_database_close(pdt_database *database) {
     return PDT_MISUSE;
   }
   int code = pdti_flush(database, true);
+  if (!code && !database->options.read_only) (void)pdti_note_safe(database); /* where that fails the commits are safe all the same */
   destroy_locks(database);
   free_database(database);
   return code;
@@ -215,11 +219,9 @@ pdt_code pdt_database_close(pdt_database *database) {
 
 /* ---- what it counts */
 
-pdt_code pdt_database_count(pdt_database *database, pdt_database_counts *counts) {
-  if (!pdti_is_ours(database) || !counts || counts->size < sizeof *counts) return PDT_MISUSE;
-  size_t size = counts->size;
-  memset(counts, 0, size); /* what this version doesn't know is 0 */
-  counts->size = size;
+pdt_code pdt_database_count(pdt_database *database, pdt_database_counts *out) {
+  if (!pdti_is_ours(database) || !out || pdti_may_fill(out, offsetof(pdt_database_counts, kept_bytes))) return PDT_MISUSE;
+  pdt_database_counts made = {0}, *counts = &made;
   pthread_mutex_lock(&database->turn_lock); /* first: what is safe isn't newer than the newest then */
   counts->safe = database->safe;
   counts->batches = database->batches;
@@ -230,9 +232,11 @@ pdt_code pdt_database_count(pdt_database *database, pdt_database_counts *counts)
   int held = pthread_mutex_lock(&database->locks.lock); /* by this thread, where a commit of its own is prepared */
   counts->commits = database->newest;
   counts->tables = database->count;
+  for (size_t i = 0; i < database->count; i++) counts->kept_bytes += pdti_kept_bytes(database->tables[i]->store);
   if (!held) pthread_mutex_unlock(&database->locks.lock);
   counts->folds = database->folds;
   counts->images = database->images;
   counts->faults = database->faults;
+  pdti_fill_struct(out, counts, sizeof *counts);
   return PDT_OK;
 }

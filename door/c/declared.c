@@ -18,6 +18,23 @@ const char *pdt_declared(const pdt_store *store, size_t column) {
   return is_there ? store->declared[column] : NULL;
 }
 
+void pdti_copy_declared(const pdt_store *store, size_t column, char *format) {
+  pthread_mutex_lock(&store->locks->fresh_lock);
+  strcpy(format, store->declared[column]);
+  pthread_mutex_unlock(&store->locks->fresh_lock);
+}
+
+pdt_code pdt_declared_copy(const pdt_store *store, size_t column, char *format, size_t room) {
+  if (!store || (!format && room)) return PDT_MISUSE;
+  if (column >= store->width) return PDT_SHAPE;
+  char copy[PDTI_FORMAT_BYTES];
+  pdti_copy_declared(store, column, copy);
+  size_t len = strlen(copy) + 1;
+  if (len > room) return PDT_TOO_SMALL;
+  memcpy(format, copy, len);
+  return PDT_OK;
+}
+
 bool pdti_may_declare(const pdt_store *store, size_t column, const char *format) {
   pdti_format as;
   if (column >= store->width || store->types[column] != PDT_INT || strlen(format) >= PDTI_FORMAT_BYTES) return false;
@@ -43,7 +60,7 @@ int pdti_write_types(pdt_database *database, const pdti_table *entry) {
   name_types(name, entry->number);
   size_t len = put_types(entry->store, text);
   if (len == END) return PDT_OK; /* of a new table, of which no other is there */
-  int file = pdti_open_in(database->dir, name, O_WRONLY | O_CREAT | O_TRUNC);
+  int file = pdti_make_in(database, database->dir, name, O_WRONLY | O_TRUNC);
   return file < 0 ? PDT_IO : pdti_close_synced(file, pdti_write_to(file, text, len));
 }
 
@@ -52,7 +69,7 @@ static int rewrite_types(pdt_database *database, const pdti_table *entry) {
   char name[NAME], text[(PDT_MAX_COLUMNS + 1) * LINE];
   name_types(name, entry->number);
   size_t len = put_types(entry->store, text);
-  int file = pdti_open_in(database->dir, "types-new", O_WRONLY | O_CREAT | O_TRUNC);
+  int file = pdti_make_in(database, database->dir, "types-new", O_WRONLY | O_TRUNC);
   int code = file < 0 ? PDT_IO : pdti_close_synced(file, pdti_write_to(file, text, len));
   if (!code && renameat(database->dir, "types-new", database->dir, name)) code = PDT_IO;
   if (code) pdti_remove_in(database->dir, "types-new");
@@ -103,10 +120,22 @@ void pdti_remove_types(pdt_database *database, uint32_t table) {
 
 /* ---- the calls */
 
-static int declare_in(pdt_database *database, pdt_store *store) {
+/* Declares a column in memory: others read formats meanwhile. */
+static void set_declared(pdt_store *store, size_t column, const char *format) {
+  pthread_mutex_lock(&store->locks->fresh_lock);
+  strcpy(store->declared[column], format);
+  pthread_mutex_unlock(&store->locks->fresh_lock);
+}
+
+static int declare_in(pdt_database *database, pdt_store *store, size_t column, const char *format) {
+  char before[PDTI_FORMAT_BYTES];
   if (!pdti_is_ours(database) || pdti_has_prepared(database)) return PDT_MISUSE;
-  pthread_mutex_lock(&database->files_lock);
+  if (database->options.read_only) return PDT_READONLY;
+  pthread_mutex_lock(&database->files_lock); /* under which alone they change */
+  strcpy(before, store->declared[column]);
+  set_declared(store, column, format);
   int code = rewrite_types(database, store->table);
+  if (code) set_declared(store, column, before);
   pthread_mutex_unlock(&database->files_lock);
   return code;
 }
@@ -114,12 +143,10 @@ static int declare_in(pdt_database *database, pdt_store *store) {
 pdt_code pdt_declare(pdt_store *store, size_t column, const char *format) {
   if (!store) return PDT_MISUSE;
   if (format ? !pdti_may_declare(store, column, format) : column >= store->width) return PDT_SHAPE;
-  char before[PDTI_FORMAT_BYTES];
-  strcpy(before, store->declared[column]);
-  strcpy(store->declared[column], format ? format : "");
-  int code = store->database ? declare_in(store->database, store) : PDT_OK;
-  if (code) strcpy(store->declared[column], before);
-  return code;
+  if (!format) format = "";
+  if (store->database) return declare_in(store->database, store, column, format);
+  set_declared(store, column, format);
+  return PDT_OK;
 }
 
 /* Declares the columns of a store that is no table yet, and makes it one; else the store is freed. */

@@ -17,10 +17,12 @@ int pdti_reserve(buffer *into, size_t more) {
   return PDT_OK;
 }
 
-/* Under a number above those of the standard streams: where they are closed it would be taken for one. */
-int pdti_open_in(int dir, const char *name, int how) {
+/* Under a number above those of the standard streams: where they are closed it would be taken for one. In a folder no link is followed,
+   and a pipe of that name is waited for by nobody. */
+static int open_as(int dir, const char *name, int how, mode_t mode) {
+  if (dir != AT_FDCWD) how |= O_NOFOLLOW | O_NONBLOCK;
   int file;
-  do file = openat(dir, name, how | O_CLOEXEC, 0666);
+  do file = openat(dir, name, how | O_CLOEXEC, mode);
   while (file < 0 && errno == EINTR);
   if (file < 0 || file > 2) return file;
   int moved = fcntl(file, F_DUPFD_CLOEXEC, 3), why = errno;
@@ -28,6 +30,15 @@ int pdti_open_in(int dir, const char *name, int how) {
   errno = why;
   return moved;
 }
+
+int pdti_open_in(int dir, const char *name, int how) { return open_as(dir, name, how, 0); }
+
+int pdti_make_in(const pdt_database *database, int dir, const char *name, int how) {
+  return open_as(dir, name, how | O_CREAT, database->options.mode);
+}
+
+/* Who may read a file may look into its folder. */
+mode_t pdti_folder_mode(mode_t mode) { return mode | (mode & 0444) >> 2; }
 
 int pdti_write_to(int file, const void *bytes, size_t len) {
   const uint8_t *at = bytes;
@@ -78,6 +89,10 @@ int pdti_read_in(int dir, const char *name, buffer *into) {
   if (file < 0) return errno == ENOENT ? PDT_MISSING : PDT_IO;
   struct stat about;
   int code = fstat(file, &about) ? PDT_IO : PDT_OK;
+  if (!code && !S_ISREG(about.st_mode)) {
+    errno = EINVAL;
+    code = PDT_IO;
+  }
   size_t len = code || about.st_size < 0 ? 0 : (size_t)about.st_size;
   if (!code) code = pdti_reserve(into, len + 1);
   while (!code && len) {

@@ -36,18 +36,27 @@ static int put_marked(void *context, size_t column, const uint8_t *bytes, size_t
   return pdti_write_to(into->file, bytes, len);
 }
 
+/* What an image is written of, and where. */
+typedef struct {
+  const pdt_database *database;
+  const pdt_store *store;
+  handle *bytes;
+  int dir;
+  uint8_t *chunk;
+} writer;
+
 /* Writes one file of an image, synced. */
-static int write_one(const pdt_store *store, handle *image, int dir, int column, uint8_t *chunk, file_mark *mark) {
+static int write_one(const writer *of, int column, file_mark *mark) {
   char name[NAME];
   file_of(name, column);
-  marked_file into = {pdti_open_in(dir, name, O_WRONLY | O_CREAT | O_EXCL), {0, (uint32_t)ALL_ONES}};
+  marked_file into = {pdti_make_in(of->database, of->dir, name, O_WRONLY | O_EXCL), {0, (uint32_t)ALL_ONES}};
   if (into.file < 0) return PDT_IO;
   int code;
   if (column < 0) {
     char header[HEADER_BYTES];
-    code = put_marked(&into, PDT_HEADER, (const uint8_t *)header, pdti_header(store, header));
+    code = put_marked(&into, PDT_HEADER, (const uint8_t *)header, pdti_header(of->store, header));
   } else {
-    code = pdti_hand_column(image, (size_t)column, chunk, put_marked, &into) ? PDT_OK : PDT_IO;
+    code = pdti_hand_column(of->bytes, (size_t)column, of->chunk, put_marked, &into) ? PDT_OK : PDT_IO;
   }
   *mark = into.mark;
   return pdti_close_synced(into.file, code);
@@ -55,18 +64,17 @@ static int write_one(const pdt_store *store, handle *image, int dir, int column,
 
 int pdti_write_image(pdt_database *database, const pdti_table *entry, handle *bytes, table_image *image) {
   char name[NAME];
-  image->folder = database->next_folder++; /* what an earlier try left may be named yet */
   folder_of(name, entry->number, image->folder);
-  if (mkdirat(database->dir, name, 0777)) return PDT_IO;
+  if (mkdirat(database->dir, name, pdti_folder_mode(database->options.mode))) return PDT_IO;
   int dir = pdti_open_in(database->dir, name, O_RDONLY | O_DIRECTORY);
-  uint8_t *chunk = malloc(CHUNK);
-  int code = dir < 0 ? PDT_IO : chunk ? PDT_OK : PDT_NOMEM;
+  writer of = {database, entry->store, bytes, dir, malloc(CHUNK)};
+  int code = dir < 0 ? PDT_IO : of.chunk ? PDT_OK : PDT_NOMEM;
   for (int column = -1; column < (int)entry->width && !code; column++)
-    code = write_one(entry->store, bytes, dir, column, chunk, column < 0 ? &image->header : &image->columns[column]);
+    code = write_one(&of, column, column < 0 ? &image->header : &image->columns[column]);
   if (!code) code = pdti_sync_in(dir);
   if (!code) code = pdti_sync_in(database->dir);
   int why = errno;
-  free(chunk);
+  free(of.chunk);
   if (dir >= 0) close(dir);
   if (code) pdti_remove_image(database, entry->number, image->folder);
   errno = why;

@@ -53,9 +53,12 @@ static int read_table(pdt_database *database, run_files *run, char *file) {
   return code;
 }
 
+/* One of another version, whose check isn't right, is damaged. */
 static int read_header(const buffer *bytes, journal_header *header, const char *name, char *file) {
   snprintf(file, NAME, "%s", name);
-  return (int)pdtr_journal_read(bytes_at(bytes->at, bytes->len), bytes->len, header);
+  int code = (int)pdtr_journal_read(bytes_at(bytes->at, bytes->len), bytes->len, header);
+  if (code != PDTI_UNKNOWN_VERSION) return code;
+  return pdti_is_newer_header(bytes) ? PDT_NEWER_FORMAT : PDT_ROT;
 }
 
 /* Reads all of it. *file is the one that a code is about. */
@@ -152,7 +155,8 @@ static int make_database(pdt_database *database, pdti_table *entry, uint64_t nam
   int code = clear_leftovers(database);
   database->name = name;
   database->next_table = TABLE + 1;
-  database->next_folder = 1;
+  entry->image.folder = 1;
+  database->next_folder = 2;
   if (!code) code = pdti_begin_journal(database);
   if (!code) code = pdti_write_first(database, entry);
   return code ? code : pdti_write_manifest(database, number, entry, NULL);

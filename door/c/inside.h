@@ -80,6 +80,8 @@ extern uint32_t pdtr_repack(handle *, handle *);
 extern uint32_t pdtr_room(size_t, handle *);
 extern void pdtr_cut(handle *);
 extern void pdtr_cut_into(handle *, handle *);
+extern void pdtr_cut_to(handle *, uint64_t, handle *);
+extern uint64_t pdtr_floor(handle *);
 extern void pdtr_trees_close(handle *);
 extern size_t pdtr_image_len(handle *, size_t);
 extern size_t pdtr_image_read(handle *, size_t, size_t, uint8_t *, size_t);
@@ -135,7 +137,9 @@ extern uint32_t pdtr_pin_again(handle *, handle *);
 extern uint64_t pdtr_pinned(handle *);
 extern void pdtr_unpin(handle *);
 
-/* the journal: a header has 36 bytes, and a frame's head 28 */
+/* the journal: a header has 36 bytes, and a frame's head 28. What pdtr_journal_read answers of a header in another version of the format */
+enum { PDTI_UNKNOWN_VERSION = 27 };
+
 extern uint32_t pdtr_check(uint32_t, const uint8_t *, size_t);
 extern bool pdtr_journal_header(uint64_t, uint64_t, uint64_t, uint8_t *, size_t);
 extern uint32_t pdtr_journal_read(const uint8_t *, size_t, journal_header *);
@@ -185,6 +189,7 @@ struct pdt_store {
   uint64_t newest;  /* the number of the newest table: of a database's, the number that its last commit has there */
   uint64_t *made_by; /* of a database's: the numbers there of its last commits and of the table before them, each at its own number
                         modulo recent + 1 */
+  uint64_t *kept_upto; /* and how many bytes their changes take in memory, with those of all before them since the opening */
   struct {
     uint64_t commits, conflicts, too_old, full, folds, checkpoints, superseded, packs;
   } done;
@@ -197,6 +202,8 @@ struct pdt_store {
   handle leaving;       /* one between the two, whose commits are being written */
   uint64_t leaving_commits;
   uint64_t leaving_newest; /* the number of the newest one among those: malloc may have refused to share that */
+  pdt_store *next_changed; /* of a database's, under the lock: in the list of those with commits that no batch has taken yet */
+  bool is_changed;
   pthread_cond_t moved; /* the number has grown */
   size_t waiting;       /* how many threads wait for that */
   pdt_pinned *oldest, *youngest; /* the pins, in the order of their numbers */
@@ -213,6 +220,7 @@ struct pdt_txn {
   bool is_prepared; /* its commit is */
   handle decision;  /* of a prepared commit: the store's lock is held then. Nothing where it changes nothing */
   handle part;      /* what a frame of its database's journal says of it */
+  size_t part_bytes;
   handle ended;     /* once it is over: all that it had, and what its commit has replaced */
   pthread_t by;     /* the thread that prepared it, and holds the lock */
   pid_t process;    /* of that thread: a child of fork has a thread of the same name, and no lock */
@@ -289,13 +297,20 @@ int pdti_begin_newest(pdt_store *store, pdt_txn *txn);
 /* Commits a transaction that changes something of a store that is no table of a database. PDT_NOMEM and PDT_MISUSE: it is open still. */
 int pdti_commit_alone(pdt_store *store, pdt_txn *txn, uint64_t *number);
 
+/* Decides a transaction's commit, whose decision it has then. PDT_TOO_OLD without one where the changes that decide it are let go of.
+   PDT_NOMEM: it is open still. Under the lock. */
+int pdti_decide(pdt_store *store, pdt_txn *txn, uint64_t *number);
+
+/* Does what was decided of a commit that is refused. Under the lock; pdti_end follows without it. */
+void pdti_refuse(pdt_store *store, pdt_txn *txn, int code);
+
 /* Counts a commit that was decided. Under the lock. */
 void pdti_count(pdt_store *store, int code);
 
 /* Whether a transaction changes nothing, so that its commit is its abort. */
 bool pdti_is_idle(pdt_txn *txn);
 
-/* Ends a transaction that leaves no record. */
+/* Ends a transaction, and what is left of one whose commit was decided. */
 void pdti_end(pdt_txn *txn);
 
 /* Frees what the commit of a transaction has let go of, or has made in vain. Without the lock, so that others don't wait for it. */
@@ -332,6 +347,8 @@ int pdti_wait_until_safe(pdt_database *database, uint64_t number);
 /* Waits until what a transaction saw is as safe as the database's sync says; and until the device has what an image is made of: else
    PDT_FAILED. PDT_MISUSE where that isn't yet, and this thread has a commit prepared: whoever writes waits for the lock. */
 int pdti_wait_for_seen(pdt_database *database, uint64_t number);
+/* After a conflict, without the lock: waits until begins see the commits up to a number, so that the next try doesn't meet them again. */
+void pdti_wait_out(pdt_database *database, uint64_t number);
 int pdti_wait_for_image(pdt_database *database, uint64_t number);
 
 /* ---- slices: one of nothing still has an address that may be read */
@@ -346,10 +363,23 @@ static inline uint8_t *room_at(void *room, size_t len) { return len ? room : pdt
 /* Whether bytes are UTF-8: none is cut short, longer than it need be, a half of a pair, or above 10FFFF. */
 bool pdti_is_utf8(const uint8_t *at, size_t len);
 
+/* ---- structs.c: those that begin with their size */
+
+/* Takes a caller's struct as this version has it: members that an earlier one lacks are zeros. PDT_MISUSE where it is smaller than the
+   first version's, or a later one with more than zeros, or the size is garbage. */
+int pdti_take_struct(void *into, size_t room, const void *given, size_t least);
+
+/* Whether a caller's struct may be filled; and fills as much of it as it has room for, with zeros behind what this version knows. */
+int pdti_may_fill(const void *to, size_t least);
+void pdti_fill_struct(void *to, const void *from, size_t room);
+
 /* ---- opening */
 
-/* What a caller asks for, whose struct may be a later one with further members: those are zeros. */
+/* What a caller asks for, or what stands for it. PDT_MISUSE as pdti_take_struct. */
 int pdti_options_of(const pdt_options *given, pdt_options *options);
+
+/* What a column is declared as, or no byte, into PDTI_FORMAT_BYTES, while other threads declare columns. */
+void pdti_copy_declared(const pdt_store *store, size_t column, char *format);
 
 /* Makes the locks of a store or of a database, or none of them. */
 int pdti_make_locks(pdti_locks *locks);

@@ -23,14 +23,26 @@ static int stage_part(pdt_database *database, pdt_txn *txn) {
   size_t len = pdtr_image_len(&txn->part, 0);
   if (len > UINT32_MAX - (database->staged - HEAD)) code = PDT_TOO_LONG;
   if (!code) code = pdti_reserve(pending, database->staged + len);
-  if (!code) {
-    database->staged += pdtr_image_read(&txn->part, 0, 0, pending->at + pending->len + database->staged, len);
+  if (code) return code;
+  size_t got = pdtr_image_read(&txn->part, 0, 0, pending->at + pending->len + database->staged, len);
+  if (got != len) { /* a frame of it would be whole by its check, and not the commit */
+    database->takes_none = true;
+    return PDT_FAILED;
   }
-  return code;
+  database->staged += len;
+  txn->part_bytes = len;
+  return PDT_OK;
+}
+
+/* Whether the parts of a frame come in ascending table: an opening takes no other payload. */
+static bool is_ascending(pdt_txn *const *txns, size_t count) {
+  for (size_t i = 1; i < count; i++)
+    if (txns[i - 1]->store->table->number >= txns[i]->store->table->number) return false;
+  return true;
 }
 
 int pdti_stage(pdt_database *database, pdt_txn *const *txns, size_t count) {
-  int code = pdti_reserve(&database->pending, HEAD);
+  int code = is_ascending(txns, count) ? pdti_reserve(&database->pending, HEAD) : PDT_FAILED;
   database->staged = HEAD;
   for (size_t i = 0; i < count && !code; i++) code = stage_part(database, txns[i]);
   if (code) database->staged = 0;
@@ -49,30 +61,42 @@ uint64_t pdti_append(pdt_database *database) {
 
 int pdti_may_commit(const pdt_database *database) {
   if (!pdti_is_ours(database)) return PDT_MISUSE;
+  if (database->options.read_only) return PDT_READONLY;
   return database->takes_none ? PDT_FAILED : PDT_OK;
 }
 
 /* ---- what begins may see */
 
-static bool hides(const pdt_database *database) {
+bool pdti_hides(const pdt_database *database) {
   return database->options.sync == PDT_SYNC_FULL && !database->options.early_reads;
 }
 
 bool pdti_is_hidden(const pdt_store *store) {
-  return store->database && hides(store->database) && store->newest > store->database->published;
+  return store->database && pdti_hides(store->database) && store->newest > store->database->published;
 }
 
 uint64_t pdti_newest(const pdt_database *database) { return database->newest; }
 
-uint64_t pdti_seen(const pdt_database *database) { return hides(database) ? database->published : database->newest; }
+uint64_t pdti_seen(const pdt_database *database) { return database->published; }
 
 /* ---- of who has the turn */
 
+void pdti_enter_changed(pdt_database *database, pdt_store *store) {
+  if (store->is_changed || !pdti_hides(database)) return;
+  store->is_changed = true;
+  store->next_changed = database->changed;
+  database->changed = store;
+}
+
 /* Takes the versions that the commits of a batch made of each table, which begins take once these are safe. Under the lock. */
 static void take_versions(pdt_database *database) {
+  database->batch_count = 0;
   pthread_mutex_lock(&database->locks.fresh_lock);
-  for (size_t i = 0; i < database->count; i++) {
-    pdt_store *store = database->tables[i]->store;
+  while (database->changed) {
+    pdt_store *store = database->changed;
+    database->changed = store->next_changed;
+    store->is_changed = false;
+    database->batch[database->batch_count++] = store;
     store->leaving_newest = store->newest;
     if (!store->coming.at) continue;
     store->leaving = store->coming; /* nothing is there: a turn that failed was the last one */
@@ -91,21 +115,24 @@ static int take_batch(pdt_database *database, uint64_t *upto) {
   database->pending.len = 0;
   database->writing = frames;
   *upto = database->newest;
-  if (hides(database)) take_versions(database);
+  if (pdti_hides(database)) take_versions(database);
   pthread_mutex_unlock(&database->locks.lock);
   return PDT_OK;
 }
 
-/* Makes the heads of the frames that are written. Each says which commits are safe. */
-static void make_heads(pdt_database *database, uint64_t safe) {
+/* Makes the heads of the frames that are written. Each says which commits are safe, of which its own is none. */
+static int make_heads(pdt_database *database, uint64_t safe) {
   buffer *frames = &database->writing;
   for (size_t at = 0; at < frames->len;) {
     unwritten head;
     memcpy(&head, frames->at + at, sizeof head);
     const uint8_t *payload = frames->at + at + HEAD;
-    pdtr_frame_head(database->salt, head.number, safe, bytes_at(payload, head.len), head.len, frames->at + at, HEAD);
+    bool is_made = safe < head.number &&
+                   pdtr_frame_head(database->salt, head.number, safe, bytes_at(payload, head.len), head.len, frames->at + at, HEAD);
+    if (!is_made) return PDT_IO;
     at += HEAD + head.len;
   }
+  return PDT_OK;
 }
 
 /* Takes the sync, with turn_lock held: it is one thread's at a time, and the file stays what it is meanwhile. */
@@ -168,7 +195,7 @@ static int write_frames(pdt_database *database) {
   pthread_mutex_unlock(&database->turn_lock);
   if (has_failed) return PDT_IO;
   if (is_new && write_header(database, first.number - 1)) return PDT_IO;
-  make_heads(database, safe);
+  if (make_heads(database, safe)) return PDT_IO;
   if (pdti_write_to(database->file, frames->at, frames->len)) return PDT_IO;
   pthread_mutex_lock(&database->turn_lock);
   journal_file *last = last_file(database);
@@ -180,14 +207,14 @@ static int write_frames(pdt_database *database) {
 
 /* The commits up to a number are safe: begins take the versions that they made, of all tables at once. */
 static void publish(pdt_database *database, uint64_t upto) {
-  if (!hides(database)) return;
-  replaced *before = database->replaced; /* of who has the turn, as are the tables then */
-  size_t count = database->count;
+  if (!pdti_hides(database)) return;
+  replaced *before = database->replaced;
   pthread_mutex_lock(&database->locks.fresh_lock);
   database->published = upto;
-  for (size_t i = 0; i < count; i++) before[i] = pdti_publish(database->tables[i]->store, upto);
+  for (size_t i = 0; i < database->batch_count; i++) before[i] = pdti_publish(database->batch[i], upto);
   pthread_mutex_unlock(&database->locks.fresh_lock);
-  for (size_t i = 0; i < count; i++) pdti_drop(before[i]);
+  for (size_t i = 0; i < database->batch_count; i++) pdti_drop(before[i]);
+  database->batch_count = 0;
 }
 
 /* No commit is taken any more: what the device made of the last bytes isn't known, and isn't asked again. */
@@ -315,12 +342,16 @@ int pdti_wait_for(pdt_database *database, uint64_t number) {
 /* Whether nothing is to be waited for before a commit is as safe as the database's sync says, or until the device has it. */
 static bool is_there(pdt_database *database, uint64_t number, bool is_safe) {
   if (!is_safe && database->options.sync == PDT_SYNC_OFF) return true;
-  if (hides(database) && number <= database->published) return true; /* with no lock: what a reader saw */
+  if (pdti_hides(database) && number <= database->published) return true; /* with no lock: what a reader saw */
   is_safe |= database->options.sync == PDT_SYNC_FULL;
   pthread_mutex_lock(&database->turn_lock);
   bool is_reached = number <= (is_safe ? database->safe : database->written);
   pthread_mutex_unlock(&database->turn_lock);
   return is_reached;
+}
+
+void pdti_wait_out(pdt_database *database, uint64_t number) {
+  if (pdti_hides(database) && number > database->published) (void)pdti_wait_until_safe(database, number);
 }
 
 int pdti_wait_for_seen(pdt_database *database, uint64_t number) {
@@ -353,7 +384,7 @@ int pdti_turn_over(pdt_database *database) {
   if (!is_due) return PDT_OK;
   char name[FILE_NAME];
   pdti_name_journal(name, seq);
-  int file = pdti_open_in(database->dir, name, O_WRONLY | O_CREAT | O_TRUNC | O_APPEND);
+  int file = pdti_make_in(database, database->dir, name, O_WRONLY | O_TRUNC | O_APPEND);
   if (file < 0) return PDT_IO;
   if (pdti_sync_in(database->dir)) { /* an empty file says nothing, also where it stays */
     int why = errno;
@@ -377,6 +408,13 @@ uint64_t pdti_first_wanted(pdt_database *database, uint64_t oldest) {
   while (at + 1 < database->file_count && begins_by(&database->files[at + 1], oldest)) at++;
   const journal_file *first = &database->files[at];
   uint64_t seq = !first->bytes || begins_by(first, oldest) ? first->seq : 0;
+  pthread_mutex_unlock(&database->turn_lock);
+  return seq;
+}
+
+uint64_t pdti_first_file(pdt_database *database) {
+  pthread_mutex_lock(&database->turn_lock);
+  uint64_t seq = database->files[0].seq;
   pthread_mutex_unlock(&database->turn_lock);
   return seq;
 }

@@ -122,16 +122,29 @@ static struct timespec later(uint64_t milliseconds) {
   return at;
 }
 
+/* A thread that waits ends to wait, also where it is cancelled: it has the lock then. */
+static void end_wait(void *context) {
+  pdt_store *store = context;
+  store->waiting--;
+  pthread_mutex_unlock(&store->locks->fresh_lock);
+}
+
+/* Waits until the number is above this one, or the time is over, with fresh_lock held: the number then. */
+static uint64_t wait_until(pdt_store *store, uint64_t after, const struct timespec *end) {
+  int late = 0;
+  while (store->commits <= after && !late) late = pthread_cond_timedwait(&store->moved, &store->locks->fresh_lock, end);
+  return store->commits;
+}
+
 pdt_code pdt_wait(pdt_store *store, uint64_t after, uint64_t milliseconds, uint64_t *commits) {
   if (!store) return PDT_MISUSE;
   struct timespec end = later(milliseconds);
-  int late = 0;
+  uint64_t number;
   pthread_mutex_lock(&store->locks->fresh_lock);
   store->waiting++;
-  while (store->commits <= after && !late) late = pthread_cond_timedwait(&store->moved, &store->locks->fresh_lock, &end);
-  store->waiting--;
-  uint64_t number = store->commits;
-  pthread_mutex_unlock(&store->locks->fresh_lock);
+  pthread_cleanup_push(end_wait, store);
+  number = wait_until(store, after, &end);
+  pthread_cleanup_pop(1);
   if (commits) *commits = number;
   return number > after ? PDT_OK : PDT_MISSING;
 }

@@ -1,5 +1,6 @@
 /* The manifest of a database: which tables it has, and for each the image that stands for it, with the length and the check of
-   each file. It is one file, `manifest`, written anew under another name and then renamed: one or the other is there, whole.
+   each file. It is one file, `manifest`, written anew under another name and then renamed: one or the other is there, whole. The first
+   line has the version of the format; it and the last line are those of every version.
 
      narthexmace 1
      database NAME SALT         both in hexadecimal
@@ -15,7 +16,7 @@
 #include <stdarg.h>
 #include <stdio.h>
 
-enum { ALL_ONES = -1, LINE = 256 };
+enum { ALL_ONES = -1, LINE = 256, VERSION = 1 };
 
 static uint32_t check_of(const void *bytes, size_t len) { return pdtr_check((uint32_t)ALL_ONES, bytes_at(bytes, len), len); }
 
@@ -51,6 +52,14 @@ static uint64_t oldest_image(const pdt_database *database, uint64_t number, cons
   return oldest;
 }
 
+/* The newest commit that is known to be safe, where one is. */
+static uint64_t safe_number(pdt_database *database, uint64_t number) {
+  pthread_mutex_lock(&database->turn_lock);
+  uint64_t safe = database->safe;
+  pthread_mutex_unlock(&database->turn_lock);
+  return safe > number ? safe : number;
+}
+
 static int put_manifest(pdt_database *database, uint64_t number, const pdti_table *added, buffer *text) {
   uint64_t first = pdti_first_wanted(database, oldest_image(database, number, added));
   if (!first) return PDT_GAP;
@@ -64,9 +73,15 @@ static int put_manifest(pdt_database *database, uint64_t number, const pdti_tabl
 
 int pdti_write_manifest(pdt_database *database, uint64_t number, const pdti_table *added, bool *in_doubt) {
   buffer text = {NULL, 0, 0};
+  if (in_doubt) *in_doubt = false;
+  if (pdti_has_lost_lock(database)) {
+    pdti_fail(database); /* another process may write the same files */
+    return PDT_LOCKED;
+  }
+  number = safe_number(database, number);
   int code = put_manifest(database, number, added, &text);
   if (!code) {
-    int file = pdti_open_in(database->dir, "manifest-new", O_WRONLY | O_CREAT | O_TRUNC);
+    int file = pdti_make_in(database, database->dir, "manifest-new", O_WRONLY | O_TRUNC);
     code = file < 0 ? PDT_IO : pdti_close_synced(file, pdti_write_to(file, text.at, text.len));
   }
   bool is_written = !code;
@@ -74,10 +89,16 @@ int pdti_write_manifest(pdt_database *database, uint64_t number, const pdti_tabl
   if (code) pdti_remove_in(database->dir, "manifest-new"); /* on a full disk it would keep the room that others want */
   if (!code) code = pdti_sync_in(database->dir);
   if (in_doubt) *in_doubt = code && is_written;
+  if (!code) database->noted = number;
   int why = errno;
   free(text.at);
   errno = why;
   return code;
+}
+
+int pdti_note_safe(pdt_database *database) {
+  uint64_t safe = safe_number(database, database->noted);
+  return safe > database->noted ? pdti_write_manifest(database, safe, NULL, NULL) : PDT_OK;
 }
 
 /* ---- reading: what isn't as it is written is damaged */
@@ -192,10 +213,18 @@ static int open_text(buffer *text) {
   return PDT_OK;
 }
 
+/* Whether the manifest is of a later version, which is in its first line. */
+static bool is_newer(const char *at) {
+  reader text = {at, false};
+  take_word(&text, "narthexmace ");
+  return take_number(&text, UINT32_MAX, '\n') > VERSION;
+}
+
 int pdti_read_manifest(pdt_database *database, uint64_t *number, uint64_t *first) {
   buffer bytes = {NULL, 0, 0};
   int code = pdti_read_in(database->dir, "manifest", &bytes);
   if (!code) code = open_text(&bytes);
+  if (!code && is_newer((const char *)bytes.at)) code = PDT_NEWER_FORMAT;
   if (!code) {
     reader text = {(const char *)bytes.at, false};
     take_word(&text, "narthexmace 1\ndatabase ");
@@ -204,6 +233,7 @@ int pdti_read_manifest(pdt_database *database, uint64_t *number, uint64_t *first
     take_word(&text, "at ");
     *number = take_number(&text, UINT64_MAX, ' ');
     *first = take_number(&text, UINT64_MAX, '\n');
+    database->noted = *number;
     take_word(&text, "next ");
     database->next_table = (uint32_t)take_number(&text, UINT32_MAX, ' ');
     database->next_folder = take_number(&text, UINT64_MAX, '\n');
@@ -227,9 +257,11 @@ static void remove_unnamed(void *context, const char *name, uint64_t table, uint
   if (!is_named(database, table, folder)) pdti_remove_image(database, table, folder);
 }
 
+/* Those of a table that is there, or that no table has been yet, aren't the database's to remove. */
 static void remove_types(void *context, const char *name, uint64_t table, uint64_t second) {
   pdt_database *database = context;
   (void)name, (void)second;
+  if (table > database->next_table) return;
   for (size_t i = 0; i < database->count; i++)
     if (database->tables[i]->number == table) return;
   pdti_remove_types(database, (uint32_t)table);

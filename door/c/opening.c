@@ -31,12 +31,11 @@ size_t pdti_header(const pdt_store *store, char *text) {
 int pdti_options_of(const pdt_options *given, pdt_options *options) {
   *options = (pdt_options){sizeof *options, 65536, 2147483647, false};
   if (!given) return PDT_OK;
-  if (given->size < sizeof *given) return PDT_MISUSE;
-  for (size_t at = sizeof *given; at < given->size; at++)
-    if (((const uint8_t *)given)[at]) return PDT_MISUSE;
-  if (given->recent) options->recent = given->recent;
-  if (given->row_limit) options->row_limit = given->row_limit;
-  options->by_row = given->by_row;
+  pdt_options asked;
+  if (pdti_take_struct(&asked, sizeof asked, given, sizeof asked)) return PDT_MISUSE;
+  if (asked.recent) options->recent = asked.recent;
+  if (asked.row_limit) options->row_limit = asked.row_limit;
+  options->by_row = asked.by_row;
   return PDT_OK;
 }
 

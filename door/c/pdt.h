@@ -75,7 +75,9 @@ typedef enum pdt_code {
   PDT_MISFIT = 23,        /* the journal isn't of these tables: pdt_report says at which commit */
   PDT_UNSURE = 24,        /* the device failed over the commit: it is there or not, as the next opening tells */
   PDT_FAILED = 25,        /* the device has failed: the database takes no write until it is opened again */
-  PDT_TOO_LONG = 26       /* what the transaction changes takes 4 GiB or more in the journal */
+  PDT_TOO_LONG = 26,      /* what the transaction changes takes 4 GiB or more in the journal */
+  PDT_NEWER_FORMAT = 27,  /* a later version of the library wrote a file of the database: pdt_report says which; nothing is changed */
+  PDT_READONLY = 28       /* the database was opened for reading alone */
 } pdt_code;
 
 /* A sentence for a code, in English; never null. */
@@ -96,7 +98,7 @@ typedef struct pdt_work pdt_work;
 
 /* What a store is opened with. A null pointer, or zeros but for the size, stand for 65,536, 2,147,483,647 and conflicts by column. */
 typedef struct pdt_options {
-  size_t size;        /* sizeof(pdt_options): a later version may have more members, which are zeros here; else PDT_MISUSE */
+  size_t size;        /* sizeof(pdt_options), also of an earlier or a later header; members that this version lacks are zeros */
   size_t recent;      /* how many commits may come between a transaction's begin and its commit: 1 to 65,536 */
   uint64_t row_limit; /* how many rows a table may have: 1 to 2,147,483,647 */
   bool by_row;        /* whether changes of two columns of one row conflict */
@@ -195,7 +197,7 @@ pdt_code pdt_size(pdt_store *store, pdt_sizes *sizes);
 
 /* What a store has counted since its opening, and what it keeps now. A later version may have more members. */
 typedef struct pdt_counts {
-  size_t size;           /* sizeof(pdt_counts), set by the caller: members of a later version are 0; a smaller one is PDT_MISUSE */
+  size_t size;           /* sizeof(pdt_counts), set by the caller, also of an earlier or a later header; else PDT_MISUSE */
   uint64_t begins;       /* transactions that have begun */
   uint64_t commits;      /* those that were committed, and changed something */
   uint64_t conflicts;    /* those that ended by PDT_CONFLICT */
@@ -372,7 +374,7 @@ pdt_code pdt_mark(pdt_txn *txn, size_t *level);
 /* Undoes the writes since the mark of a level, as if they had never been asked for: a commit records none of them. The mark
    stays, and those after it are gone. What pdt_pieces has handed out may be read on, and what pdt_texts has may not.
    PDT_MISSING where there is no mark of the level, PDT_MISUSE: nothing changed.
-   It takes no memory. PDT_NOMEM would say that one tree has 2^64 owners. */
+   It takes no memory. PDT_NOMEM would say that one tree has 2^63 - 1 owners. */
 pdt_code pdt_back_to(pdt_txn *txn, size_t level);
 
 /* Forgets the mark of a level and those after it. Their writes stay.
@@ -489,7 +491,8 @@ pdt_code pdt_own_layer(pdt_txn *txn, pdt_layer **layer);
 pdt_code pdt_changes(pdt_store *store, uint64_t number, pdt_layer **layer);
 
 /* Waits until the newest table has a number above this one, for so many milliseconds at most. *commits, if not null, is its number.
-   PDT_MISSING where none came in that time, PDT_MISUSE. It ends before the store is closed. */
+   PDT_MISSING where none came in that time, PDT_MISUSE. It ends before the store is closed. A thread may be cancelled in this call
+   (pthread_cancel), and in no other one of the library. */
 pdt_code pdt_wait(pdt_store *store, uint64_t after, uint64_t milliseconds, uint64_t *commits);
 
 /* Lets a layer go. A null pointer is no error. */
@@ -524,13 +527,17 @@ enum pdt_sync {
 
 /* What a database is opened with. A null pointer, or zeros but for the size, stand for the values that are said here. */
 typedef struct pdt_database_options {
-  size_t size;                 /* sizeof(pdt_database_options): a later version may have more members, zeros here; else PDT_MISUSE */
+  size_t size;                 /* sizeof(pdt_database_options), also of an earlier or a later header, as of pdt_options */
   int sync;                    /* one of enum pdt_sync: full */
   bool early_reads;            /* whether a begin takes the newest table, also where a crash could take its last commits away: no */
   bool no_upkeep;              /* whether the database has no thread of its own, so that pdt_upkeep is called instead: no */
+  bool read_only;              /* whether it is only read, and nothing in its folder is made or changed: no. Several may read at once */
   uint64_t fold_entries;       /* a Write-PDT of so many entries is folded: 1,024 */
   uint64_t checkpoint_entries; /* a table whose layers have so many entries, and a fiftieth of its rows, gets an image: 10,000 */
   uint64_t journal_bytes;      /* above so many bytes of journal each table whose image is old gets one: 67,108,864 */
+  uint64_t kept_bytes;         /* memory for the changes of the last commits, of all tables, the oldest going first: 268,435,456 */
+  unsigned mode;               /* the mode of the files that it makes, less the umask; folders get the right to search beside that to
+                                  read: 0666 */
 } pdt_database_options;
 
 /* The name of the table of a database that was a folder of the program's. */
@@ -538,19 +545,23 @@ typedef struct pdt_database_options {
 
 /* What an opening found. A later version may have more members. */
 typedef struct pdt_report {
-  size_t size;         /* sizeof(pdt_report), set by the caller; a smaller one is PDT_MISUSE */
+  size_t size;         /* sizeof(pdt_report), set by the caller, as of pdt_counts */
   uint64_t commits;    /* the number of the newest commit */
   uint64_t replayed;   /* how many commits were read from the journal, because an image doesn't have them */
   uint64_t torn_bytes; /* how many bytes at the journal's end are no whole commit, which nobody was told of: they are cut off */
   uint64_t fault;      /* at PDT_ROT, PDT_GAP and PDT_MISFIT the commit, or 0 where it is a file; of images.pdt the mark */
-  char file[64];       /* the file in the folder that a code is about, or nothing */
+  char file[64];       /* the file in the folder that a code is about, or nothing; at PDT_OK the one that keeps the torn bytes, where they
+                          have whole commits behind a damaged one */
 } pdt_report;
 
 /* Opens the database in a folder, which is made where there is none: not those above it. *report, which may be null, says what was
-   found. PDT_LOCKED; PDT_ROT, PDT_GAP, PDT_MISFIT, PDT_BAD_STORE, PDT_NO_IMAGE: report->fault and report->file say of what;
-   PDT_IO, PDT_NOMEM, PDT_MISUSE: *database is null then, and no file of it has changed, but that what is torn may be cut off at PDT_IO
-   and PDT_NOMEM.
+   found. PDT_LOCKED; PDT_ROT, PDT_GAP, PDT_MISFIT, PDT_BAD_STORE, PDT_NO_IMAGE, PDT_NEWER_FORMAT: report->fault and report->file say of
+   what; PDT_IO, PDT_NOMEM, PDT_MISUSE: *database is null then, and no file of it has changed, but that what is torn may be cut off at
+   PDT_IO and PDT_NOMEM. A folder that it has made is taken away again.
    It takes memory for all tables and for the journal.
+   With read_only it makes and changes nothing in the folder, which may be on a full or read-only file system: PDT_MISSING where there
+   is no database in it, and PDT_LOCKED where a process has it open and may write. What is torn is left out. Each call that would write
+   is PDT_READONLY: a commit that changes something, which stays open, pdt_table_create, pdt_table_drop, pdt_declare and pdt_upkeep.
    A folder that the program has made by `pdt run TABLE SCRIPT --store FOLDER --journal` becomes a database with one table, of the name
    PDT_IMPORTED: it has the rows of the newest image and of the commits since, and numbers go on after the last. The program's files are
    gone then. It isn't to be opened while the run is still going on: the program locks nothing. */
@@ -612,7 +623,7 @@ pdt_code pdt_upkeep(pdt_database *database);
 
 /* What a database has counted since its opening, and what it keeps now. A later version may have more members. */
 typedef struct pdt_database_counts {
-  size_t size;            /* sizeof(pdt_database_counts), set by the caller; a smaller one is PDT_MISUSE */
+  size_t size;            /* sizeof(pdt_database_counts), set by the caller, as of pdt_counts */
   uint64_t commits;       /* the number of the newest commit */
   uint64_t safe;          /* the number of the newest one that is known to be on the device */
   uint64_t batches;       /* how often frames were written, of one commit or of several */
@@ -623,6 +634,7 @@ typedef struct pdt_database_counts {
   uint64_t journal_bytes; /* how many bytes the files of the journal have now */
   size_t journal_files;   /* and how many they are */
   size_t tables;
+  uint64_t kept_bytes;    /* how many bytes of memory, about, the changes of the last commits take */
 } pdt_database_counts;
 
 /* Counts. PDT_MISUSE. */

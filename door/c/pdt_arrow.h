@@ -77,12 +77,16 @@ struct ArrowArrayStream {
    "tdD" days, "tsu:UTC" microseconds, "d:15,2" decimals, "?l" numbers with nulls, which no column of the key is. Null takes that back.
    Streams have the column so where no format is asked for, and pdt_apply_arrow refuses numbers that mean something else. The table isn't
    changed by it: for all calls of pdt.h the column has the same numbers, in the same order.
-   Of a table of a database it is on the device when this returns, and is there when the folder is opened again. It is called while no
-   other thread uses the store. PDT_SHAPE, PDT_IO, PDT_MISUSE: it is as it was. (Where the device fails, a later opening may find it.) */
+   Of a table of a database it is on the device when this returns, and is there when the folder is opened again. Other threads may use the
+   store meanwhile: what they begin before it goes out as before. PDT_SHAPE, PDT_IO, PDT_READONLY, PDT_MISUSE: it is as it was. (Where the
+   device fails, a later opening may find it.) */
 pdt_code pdt_declare(pdt_store *store, size_t column, const char *format);
 
-/* The format of a column that is declared, and else null. It stays until the column is declared again. */
+/* The format of a column that is declared, and else null. It stays until the column is declared again: it isn't read while another thread
+   does that. pdt_declared_copy may be called then: it copies the format into room bytes, with a zero at its end, or no byte but that where
+   there is none. 64 bytes are enough. PDT_SHAPE where there is no such column, PDT_TOO_SMALL, PDT_MISUSE. */
 const char *pdt_declared(const pdt_store *store, size_t column);
+pdt_code pdt_declared_copy(const pdt_store *store, size_t column, char *format, size_t room);
 
 /* Make a table of a database as pdt_table_create and pdt_table_create_csv do, whose columns are declared: formats[i] is what pdt_declare
    would be given for column i, or null, and there are count of them. A crash leaves the table so, or none. Those of these calls;
@@ -123,16 +127,18 @@ pdt_code pdt_txn_arrow(pdt_txn *txn, const pdt_arrow_column *columns, size_t cou
 /* What is wrong with columns that come in: a sentence in English with the column's name, and where. The row counts from 0 over all
    batches, and is the first one of its batch where that is meant as a whole; the column counts from 0 in the stream. */
 typedef struct pdt_arrow_fault {
-  size_t size;     /* sizeof(pdt_arrow_fault), set by the caller: a later version may have more members; a smaller one is PDT_MISUSE */
+  size_t size;     /* sizeof(pdt_arrow_fault), set by the caller, as of pdt_counts */
   pdt_place place; /* zeros where no place is meant */
   char cause[256]; /* ends with a zero; empty after PDT_OK, PDT_NOMEM and PDT_MISUSE */
 } pdt_arrow_fault;
 
 /* Opens a store over the rows of a stream, in any order. The columns of these names are the key, in this order; the others come after
-   them, in the order of the stream. What comes in as doubles, dates, times, durations or decimals is declared so. *fault, which may be
-   null, says what is wrong and where:
-   PDT_SHAPE: a null, a number that 64 bits don't hold, a text that is no UTF-8 or has more than 4,096 bytes, offsets that descend, an
-   index outside its dictionary; a format that no column takes; or a batch that isn't one of its schema.
+   them, in the order of the stream. What comes in as doubles, dates, times, durations or decimals is declared so, and with ? where the
+   field says that it may have nulls, as it is of integers then. A null is the least number, and isn't taken beside that; a column that has
+   the number and no null is declared without ?. *fault, which may be null, says what is wrong and where:
+   PDT_SHAPE: a null of the key, of a text or a truth, or of a column whose field says that it has none; a number that 64 bits don't hold,
+   a text that is no UTF-8 or has more than 4,096 bytes, offsets that descend, an index outside its dictionary; a format that no column
+   takes; or a batch that isn't one of its schema.
    PDT_DUPLICATE: the key is that of an earlier row; of several such keys the least is told. PDT_BAD_TABLE: a name, or the key.
    PDT_DEVICE_FAILED: the stream failed, and the cause has what it said; where it says ENOMEM that is PDT_NOMEM.
    PDT_TOO_MANY_ROWS, PDT_BAD_LIMIT, PDT_NOMEM, PDT_MISUSE, also of a stream that is released: *store is null then. */
@@ -148,7 +154,8 @@ pdt_code pdt_table_create_arrow(pdt_database *database, const char *name, struct
 enum pdt_apply { PDT_APPLY_INSERT = 1, PDT_APPLY_UPSERT = 2, PDT_APPLY_DELETE = 3 };
 
 /* Applies the rows of a stream to a transaction, one after the other: all of them, or none. The columns are found by their names, in any
-   order: those of the table, or those of the key for a delete, which passes over the others. *done, if not null, says how many rows were
+   order: those of the table, or those of the key for a delete, which passes over the others: up to 32 of them, each in a format that a
+   column takes. *done, if not null, says how many rows were
    applied: 0 after any other code than PDT_OK.
    PDT_DUPLICATE, PDT_MISSING, PDT_FULL at the row; PDT_SHAPE, also where the columns aren't those of the table; PDT_DEVICE_FAILED, as of
    pdt_open_arrow; PDT_TOO_MANY_ROWS (of one batch), PDT_NOMEM, PDT_MISUSE. The transaction stays open, and is then as it was. */

@@ -15,8 +15,9 @@ static int about(pdt_report *report, const char *file, int code) {
 
 /* ---- the folder */
 
-int pdti_make_folder(const char *folder) {
-  return mkdir(folder, 0777) && errno != EEXIST ? PDT_IO : PDT_OK;
+int pdti_make_folder(const char *folder, mode_t mode, bool *is_new) {
+  *is_new = !mkdir(folder, pdti_folder_mode(mode));
+  return *is_new || errno == EEXIST ? PDT_OK : PDT_IO;
 }
 
 /* Makes the name of the folder safe, whoever made it. */
@@ -31,28 +32,55 @@ static int keep_folder(const pdt_database *database) {
 }
 
 /* A call that a signal has cut off is made again. */
-static int lock(int file) {
+static int lock(int file, int how) {
   int bad;
-  do bad = flock(file, LOCK_EX | LOCK_NB);
+  do bad = flock(file, how | LOCK_NB);
   while (bad && errno == EINTR);
   return !bad ? PDT_OK : errno == EWOULDBLOCK ? PDT_LOCKED : PDT_IO;
 }
 
+/* Opens the file `lock`, or makes it where the database isn't only read. */
+static int open_lock(pdt_database *database) {
+  bool reads = database->options.read_only;
+  database->lock_file = pdti_open_in(database->dir, "lock", reads ? O_RDONLY : O_RDWR);
+  if (database->lock_file >= 0 || errno != ENOENT) return database->lock_file < 0 ? PDT_IO : PDT_OK;
+  if (reads) return PDT_OK;
+  database->lock_file = pdti_make_in(database, database->dir, "lock", O_RDWR);
+  database->has_made_lock = database->lock_file >= 0;
+  return database->lock_file < 0 ? PDT_IO : PDT_OK;
+}
+
 /* A file of the folder can be taken away by hand, and another be made in its place; the folder itself can't while it has the database.
-   Some file systems lock no folder, or none that is open for reading alone: there it is the file's lock alone. */
+   Some file systems lock no folder, or none that is open for reading alone: there it is the file's lock alone. Openings that only read
+   share both, and make no file: where there is none the folder's lock is enough. */
 int pdti_lock_folder(pdt_database *database) {
-  database->lock_file = pdti_open_in(database->dir, "lock", O_RDWR | O_CREAT);
-  if (database->lock_file < 0) return PDT_IO;
-  int code = lock(database->lock_file);
+  bool reads = database->options.read_only;
+  int how = reads ? LOCK_SH : LOCK_EX;
+  int code = open_lock(database);
+  if (!code && database->lock_file >= 0) code = lock(database->lock_file, how);
   if (code) return code;
-  code = lock(database->dir);
-  bool locks_none = code == PDT_IO && (errno == EBADF || errno == EINVAL || errno == EOPNOTSUPP);
-  return locks_none ? PDT_OK : code;
+  code = lock(database->dir, how);
+  database->locks_none = code == PDT_IO && (errno == EBADF || errno == EINVAL || errno == EOPNOTSUPP);
+  return database->locks_none ? PDT_OK : code;
+}
+
+bool pdti_has_lost_lock(const pdt_database *database) {
+  struct stat ours, there;
+  if (!database->locks_none || fstat(database->lock_file, &ours)) return false;
+  if (fstatat(database->dir, "lock", &there, AT_SYMLINK_NOFOLLOW)) return errno == ENOENT;
+  return ours.st_ino != there.st_ino || ours.st_dev != there.st_dev;
+}
+
+void pdti_remove_new(pdt_database *database, const char *folder) {
+  if (database->has_made_lock) pdti_remove_in(database->dir, "lock");
+  if (!folder) return;
+  if (database->dir >= 0) pdti_remove_in(database->dir, "manifest"), pdti_remove_in(database->dir, "journal-1");
+  rmdir(folder);
 }
 
 /* ---- what is new */
 
-/* What is in a folder without a manifest, of which one would have told. */
+/* What is in a folder without a manifest, that one would have named. */
 typedef struct {
   int dir;
   size_t count;
@@ -82,7 +110,7 @@ static int draw(uint64_t *number) {
 static int make_journal(pdt_database *database, uint64_t seq) {
   char name[FILE_NAME];
   pdti_name_journal(name, seq);
-  int file = pdti_open_in(database->dir, name, O_WRONLY | O_CREAT | O_TRUNC | O_APPEND);
+  int file = pdti_make_in(database, database->dir, name, O_WRONLY | O_TRUNC | O_APPEND);
   if (file < 0) return PDT_IO;
   close(file);
   return pdti_sync_in(database->dir);
@@ -98,15 +126,21 @@ int pdti_begin_journal(pdt_database *database) {
   return keep_folder(database) ? PDT_IO : make_journal(database, 1);
 }
 
-/* Makes the manifest of a database in a folder that has none, after its journal. Where images or frames are there, it is lost. */
+/* Makes the manifest of a database in a folder that has none, after its journal. Where images, types or frames are there, it is lost. */
 static int make_new(pdt_database *database) {
   leftovers found = {database->dir, 0};
+  struct stat about;
   int code = pdti_names(database->dir, "image-", count_image, &found);
+  if (!code) code = pdti_names(database->dir, "types-", count_image, &found);
   if (!code) code = pdti_names(database->dir, "journal-", count_journal, &found);
   if (code) return code;
   if (found.count) return PDT_GAP;
   database->next_table = database->next_folder = 1;
-  return draw(&database->name) || pdti_begin_journal(database) ? PDT_IO : pdti_write_manifest(database, 0, NULL, NULL);
+  code = draw(&database->name) || pdti_begin_journal(database) ? PDT_IO : pdti_write_manifest(database, 0, NULL, NULL);
+  int why = errno;
+  if (code && fstatat(database->dir, "manifest", &about, 0)) pdti_remove_in(database->dir, "journal-1"); /* which has no byte */
+  errno = why;
+  return code;
 }
 
 /* ---- the journal */
@@ -136,6 +170,17 @@ static void list_file(void *context, const char *name, uint64_t seq, uint64_t se
   database->files[at] = (journal_file){.seq = seq};
 }
 
+/* Whether bytes begin with a header of a later version, by which nothing of them is damaged: each version has its check in the same
+   place. */
+bool pdti_is_newer_header(const buffer *bytes) {
+  enum { ALL_ONES = -1, CHECKED = HEADER - 4 };
+  journal_header header;
+  if (bytes->len < HEADER || pdtr_journal_read(bytes->at, bytes->len, &header) != PDTI_UNKNOWN_VERSION) return false;
+  const uint8_t *last = bytes->at + CHECKED;
+  uint32_t check = (uint32_t)last[0] << 24 | (uint32_t)last[1] << 16 | (uint32_t)last[2] << 8 | last[3];
+  return check == pdtr_check((uint32_t)ALL_ONES, bytes->at, CHECKED);
+}
+
 /* Reads a file after those before it. What has no header is the end of a journal, or damaged: what it says tells which. */
 static int read_file(journal_read *read, size_t at, char *name) {
   journal_file *file = &read->database->files[at];
@@ -148,6 +193,7 @@ static int read_file(journal_read *read, size_t at, char *name) {
     journal_header header = {0, 0, 0};
     bool is_headed = !pdtr_journal_read(bytes_at(bytes.at, bytes.len), bytes.len, &header);
     size_t front = is_headed ? HEADER : 0;
+    if (!is_headed && pdti_is_newer_header(&bytes)) code = PDT_NEWER_FORMAT;
     if (is_headed && (header.salt != read->database->salt || header.store != read->database->name)) code = PDT_MISFIT;
     if (!code) code = pdti_reserve(&read->frames, bytes.len + 1);
     if (!code) {
@@ -179,15 +225,24 @@ static int read_journal(journal_read *read, pdt_report *report) {
 
 /* ---- the tables */
 
+/* All tables come to one commit, since they are made of the same frames. */
+static int test_equal(const reopened *found, uint64_t newest, pdt_report *report) {
+  if (found->newest == newest) return PDT_OK;
+  *report->file = 0;
+  return PDT_MISFIT;
+}
+
 /* Opens the tables over their images, with the commits since. */
 static int open_tables(journal_read *read, uint64_t number, reopened *found, pdt_report *report) {
   pdt_database *database = read->database;
   uint64_t base = read->fronts[0] ? database->files[0].base : number;
-  uint64_t oldest = UINT64_MAX;
+  uint64_t oldest = UINT64_MAX, newest = 0;
   for (size_t i = 0; i < database->count; i++) {
     pdti_table *entry = database->tables[i];
     int code = pdti_open_image(database, entry, base, &read->frames, found, report->file);
     if (!code) code = pdti_read_types(database, entry, report->file);
+    if (!i) newest = found->newest;
+    if (!code) code = test_equal(found, newest, report);
     if (code) {
       report->fault = found->fault;
       return code;
@@ -223,7 +278,7 @@ static int copy_frames(const journal_read *read, size_t at, size_t frames, const
   uint8_t header[HEADER];
   size_t front = read->fronts[at];
   if (front && !pdtr_journal_header(database->salt, database->name, database->files[at].base, header, sizeof header)) return PDT_ROT;
-  int file = pdti_open_in(database->dir, name, O_WRONLY | O_CREAT | O_TRUNC);
+  int file = pdti_make_in(database, database->dir, name, O_WRONLY | O_TRUNC);
   if (file < 0) return PDT_IO;
   int code = pdti_write_to(file, header, front);
   return pdti_close_synced(file, code ? code : pdti_write_to(file, read->frames.at + read->starts[at], frames));
@@ -245,6 +300,21 @@ static int write_anew(const journal_read *read, size_t at, size_t frames) {
   return code;
 }
 
+/* Whether the commits that the manifest knows to be safe are there: else one is damaged, or missing where no bytes are left of it. */
+static int test_newest(const journal_read *read, uint64_t number, const reopened *found, pdt_report *report) {
+  if (found->newest >= number) return PDT_OK;
+  report->fault = found->newest + 1;
+  return found->whole < read->frames.len ? PDT_ROT : PDT_GAP;
+}
+
+/* Keeps what is torn where it has whole frames, and says where. */
+static int keep_frames(const journal_read *read, const reopened *found, size_t torn, pdt_report *report) {
+  const pdt_database *database = read->database;
+  const uint8_t *at = read->frames.at + found->whole;
+  if (!torn || !pdti_has_frames(database->salt, found->newest, at, torn)) return PDT_OK;
+  return pdti_keep_torn(database, database->files[database->file_count - 1].seq, at, torn, report->file);
+}
+
 /* Leaves what is torn behind, so that frames go on there. */
 static int cut_torn(journal_read *read, const reopened *found, pdt_report *report) {
   size_t last = last_with_frames(read);
@@ -252,12 +322,17 @@ static int cut_torn(journal_read *read, const reopened *found, pdt_report *repor
     report->fault = found->newest + 1;
     return PDT_ROT;
   }
-  report->torn_bytes += read->frames.len - found->whole;
-  return write_anew(read, last, found->whole - read->starts[last]);
+  size_t torn = read->frames.len - found->whole;
+  report->torn_bytes += torn;
+  bool is_safe = !torn && found->newest == read->database->noted; /* the device is known to have all of it */
+  if (is_safe || read->database->options.read_only) return PDT_OK;
+  int code = keep_frames(read, found, torn, report);
+  return code ? code : write_anew(read, last, found->whole - read->starts[last]);
 }
 
 /* Opens the last file of the journal, in which frames go on. */
 static int open_last(pdt_database *database) {
+  if (database->options.read_only) return PDT_OK;
   char name[FILE_NAME];
   journal_file *last = &database->files[database->file_count - 1];
   pdti_name_journal(name, last->seq);
@@ -268,7 +343,7 @@ static int open_last(pdt_database *database) {
 
 /* Begins a new file where no table wants one of those that are there, but for one with no bytes. */
 static int begin_anew(pdt_database *database, uint64_t number) {
-  if (database->file_count == 1 && !database->files[0].bytes) return PDT_OK;
+  if (database->options.read_only || (database->file_count == 1 && !database->files[0].bytes)) return PDT_OK;
   uint64_t seq = database->files[database->file_count - 1].seq + 1;
   if (make_journal(database, seq)) return PDT_IO;
   database->files[0] = (journal_file){.seq = seq};
@@ -283,33 +358,53 @@ static void remove_old_journal(void *context, const char *name, uint64_t seq, ui
 
 /* ---- all of it */
 
+/* Reads the manifest. Where there is none the database is made: of the files of a run, or new. */
+static int find_manifest(pdt_database *database, uint64_t *number, journal_read *read, pdt_report *report) {
+  int code = pdti_read_manifest(database, number, &read->first);
+  if (code != PDT_MISSING || database->options.read_only) return about(report, "manifest", code);
+  if (pdti_has_run(database)) {
+    code = pdti_import(database, report);
+    return code ? code : about(report, "manifest", pdti_read_manifest(database, number, &read->first));
+  }
+  read->first = 1;
+  return about(report, "manifest", make_new(database));
+}
+
+/* The image of a table that no commit has changed since is that of the newest commit too. */
+static void renumber_unchanged(pdti_table *entry, uint64_t newest) {
+  handle *raw = &entry->store->raw;
+  if (!pdtr_write_entries(raw) && !pdtr_read_entries(raw)) entry->image.number = newest;
+}
+
+/* The tables go on after the newest commit, which is safe. */
+static int attach_tables(pdt_database *database, uint64_t newest) {
+  for (size_t i = 0; i < database->count; i++)
+    if (pdti_make_room_for_numbers(database->tables[i]->store)) return PDT_NOMEM;
+  for (size_t i = 0; i < database->count; i++) {
+    pdti_attach(database, database->tables[i], newest);
+    renumber_unchanged(database->tables[i], newest);
+  }
+  return PDT_OK;
+}
+
 /* Finds the tables and where the journal goes on, and changes nothing before all of it is found. */
 static int recover(pdt_database *database, journal_read *read, pdt_report *report) {
   uint64_t number = 0;
-  int code = pdti_read_manifest(database, &number, &read->first);
-  if (code == PDT_MISSING && pdti_has_run(database)) {
-    code = pdti_import(database, report);
-    if (code) return code;
-    code = pdti_read_manifest(database, &number, &read->first);
-  } else if (code == PDT_MISSING) {
-    code = make_new(database);
-    read->first = 1;
-  }
-  if (code) return about(report, "manifest", code);
+  int code = find_manifest(database, &number, read, report);
+  if (code) return code;
   /* what a process left that was killed may have names that aren't safe: nothing is relied on, or taken away, before they are */
-  if (pdti_sync_in(database->dir)) return PDT_IO;
+  if (!database->options.read_only && pdti_sync_in(database->dir)) return PDT_IO;
   code = read_journal(read, report);
   reopened found = {0, number, 0};
   if (!code) code = open_tables(read, number, &found, report);
+  if (!code) code = test_newest(read, number, &found, report);
   if (!code) code = database->count ? cut_torn(read, &found, report) : begin_anew(database, number);
   if (!code) code = open_last(database);
   if (code) return code;
   report->commits = found.newest;
   database->newest = database->written = database->safe = found.newest;
   database->published = found.newest;
-  for (size_t i = 0; i < database->count && !code; i++) code = pdti_make_room_for_numbers(database->tables[i]->store);
-  for (size_t i = 0; i < database->count && !code; i++) pdti_attach(database, database->tables[i], found.newest);
-  return code;
+  return attach_tables(database, found.newest);
 }
 
 int pdti_open_folder(pdt_database *database, pdt_report *report) {
@@ -321,7 +416,7 @@ int pdti_open_folder(pdt_database *database, pdt_report *report) {
   free(read->frames.at);
   free(read);
   errno = why;
-  if (code) return code;
+  if (code || database->options.read_only) return code;
   pdti_remove_images(database);
   pdti_remove_run(database);
   (void)pdti_names(database->dir, "journal-", remove_old_journal, database);

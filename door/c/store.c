@@ -34,6 +34,8 @@ const char *pdt_text(int code) {
       [PDT_UNSURE] = "the device failed over the commit, which is there or not",
       [PDT_FAILED] = "the device has failed, and nothing is written until the database is opened again",
       [PDT_TOO_LONG] = "what the transaction changes is too long for the journal",
+      [PDT_NEWER_FORMAT] = "a later version of the library wrote a file of the database",
+      [PDT_READONLY] = "the database was opened for reading alone",
   };
   return code >= 0 && (size_t)code < sizeof texts / sizeof *texts && texts[code] ? texts[code] : "no such code";
 }
@@ -186,6 +188,7 @@ void pdti_free_store(pdt_store *store) {
   pthread_cond_destroy(&store->moved);
   if (store->locks == &store->own_locks) pdti_destroy_locks(store->locks);
   free(store->made_by);
+  free(store->kept_upto);
   free(store);
 }
 
@@ -288,11 +291,9 @@ static uint64_t kept_entries(pdt_store *store, size_t kept, uint64_t commits) {
   return entries;
 }
 
-pdt_code pdt_count(pdt_store *store, pdt_counts *counts) {
-  if (!store || !counts || counts->size < sizeof *counts) return PDT_MISUSE;
-  size_t size = counts->size;
-  memset(counts, 0, size); /* what this version doesn't know is 0 */
-  counts->size = size;
+pdt_code pdt_count(pdt_store *store, pdt_counts *out) {
+  if (!store || !out || pdti_may_fill(out, offsetof(pdt_counts, packs))) return PDT_MISUSE;
+  pdt_counts made = {0}, *counts = &made;
   int held = pdti_enter(store); /* by this thread, where a commit of its own is prepared */
   counts->commits = store->done.commits;
   counts->conflicts = store->done.conflicts;
@@ -312,5 +313,6 @@ pdt_code pdt_count(pdt_store *store, pdt_counts *counts) {
   counts->pins = store->pins;
   counts->oldest_pin = store->oldest ? store->oldest->commits : 0;
   pthread_mutex_unlock(&store->locks->fresh_lock);
+  pdti_fill_struct(out, counts, sizeof *counts);
   return PDT_OK;
 }

@@ -85,25 +85,41 @@ static void without_table(pdt_database *database, uint64_t number, const pdti_ta
   errno = why;
 }
 
-/* Makes a store a table of a database: its image first, then the manifest, and then it is there. With files_lock held. */
+/* Gives a table that is to be made its numbers, where there is none of the name. With files_lock held. */
+static int take_numbers(pdt_database *database, pdti_table *entry) {
+  if (find(database, entry->name)) return PDT_EXISTS;
+  if (database->next_table == UINT32_MAX) return PDT_FULL;
+  entry->number = database->next_table++;
+  entry->image.folder = database->next_folder++;
+  return PDT_OK;
+}
+
+/* Writes the files of a table that is to be made, or none of them. Without files_lock: an image may take long. */
+static int write_table(pdt_database *database, pdti_table *entry) {
+  int code = pdti_write_types(database, entry);
+  if (!code) code = pdti_write_first(database, entry);
+  if (code) pdti_remove_types(database, entry->number);
+  return code;
+}
+
+/* Puts an entry into the list by its number: tables that were begun earlier may be made later. */
+static void enter(pdt_database *database, pdti_table *entry) {
+  size_t at = database->count++;
+  for (; at && database->tables[at - 1]->number > entry->number; at--) database->tables[at] = database->tables[at - 1];
+  database->tables[at] = entry;
+}
+
+/* Has the manifest name a table whose files are written, and then it is there. With files_lock held. */
 static int add_table(pdt_database *database, pdti_table *entry) {
   uint64_t number = 0;
   bool in_doubt = false;
-  if (find(database, entry->name)) return PDT_EXISTS;
-  if (database->next_table == UINT32_MAX) return PDT_FULL;
-  int code = safe_number(database, &number);
-  if (code) return code;
-  entry->number = database->next_table++;
-  code = pdti_write_types(database, entry);
-  if (!code) code = pdti_write_first(database, entry);
-  if (code) {
-    pdti_remove_types(database, entry->number);
-    return code;
-  }
+  int code = find(database, entry->name) ? PDT_EXISTS : safe_number(database, &number);
   entry->image.number = number;
-  lock_tables(database);
-  code = pdti_reserve_entry(database);
-  unlock_tables(database);
+  if (!code) {
+    lock_tables(database);
+    code = pdti_reserve_entry(database);
+    unlock_tables(database);
+  }
   if (!code) code = pdti_write_manifest(database, number, entry, &in_doubt);
   if (code) {
     without_table(database, number, entry, in_doubt);
@@ -111,9 +127,25 @@ static int add_table(pdt_database *database, pdti_table *entry) {
   }
   lock_tables(database);
   pdti_attach(database, entry, number);
-  database->tables[database->count++] = entry; /* after the last one, since its number is the greatest */
+  enter(database, entry);
   unlock_tables(database);
   return PDT_OK;
+}
+
+/* Makes a store a table of a database: its files first, then the manifest, and then it is there. */
+static int make_table(pdt_database *database, pdti_table *entry) {
+  pthread_mutex_lock(&database->files_lock);
+  int code = take_numbers(database, entry);
+  pthread_mutex_unlock(&database->files_lock);
+  pthread_mutex_lock(&database->locks.lock);
+  if (!code) code = pdti_may_commit(database);
+  pthread_mutex_unlock(&database->locks.lock);
+  if (!code) code = write_table(database, entry);
+  if (code) return code;
+  pthread_mutex_lock(&database->files_lock);
+  code = add_table(database, entry);
+  pthread_mutex_unlock(&database->files_lock);
+  return code;
 }
 
 int pdti_create_table(pdt_database *database, const char *name, const pdt_options *options, pdt_store *store, pdt_store **out) {
@@ -124,11 +156,7 @@ int pdti_create_table(pdt_database *database, const char *name, const pdt_option
     entry->width = store->width;
     (void)pdti_options_of(options, &entry->options);
     memcpy(entry->name, name, strlen(name) + 1);
-    pthread_mutex_lock(&database->round_lock);
-    pthread_mutex_lock(&database->files_lock);
-    code = add_table(database, entry);
-    pthread_mutex_unlock(&database->files_lock);
-    pthread_mutex_unlock(&database->round_lock);
+    code = make_table(database, entry);
   }
   if (!code) {
     *out = store;
@@ -145,6 +173,7 @@ int pdti_may_create(pdt_database *database, const char *name, pdt_store **store)
   if (!store) return PDT_MISUSE;
   *store = NULL;
   if (!name || !pdti_is_ours(database) || pdti_has_prepared(database)) return PDT_MISUSE;
+  if (database->options.read_only) return PDT_READONLY;
   return is_name(name) ? PDT_OK : PDT_SHAPE;
 }
 
@@ -193,10 +222,14 @@ static void put_back(pdt_database *database, size_t at, pdti_table *entry) {
 /* Drops a table. Where that fails before the manifest may be without it, nothing has changed. Else the manifest is written with it again,
    or no commit is taken any more: it would be of a table that the next opening doesn't know. */
 static int drop(pdt_database *database, const char *name) {
+  pdti_table *entry = find(database, name);
+  while (entry && entry->is_imaged) {
+    pthread_cond_wait(&database->image_ends, &database->files_lock);
+    entry = find(database, name);
+  }
+  if (!entry) return PDT_MISSING;
   size_t at = 0;
-  while (at < database->count && strcmp(database->tables[at]->name, name)) at++;
-  if (at == database->count) return PDT_MISSING;
-  pdti_table *entry = database->tables[at];
+  while (database->tables[at] != entry) at++;
   uint64_t number = 0;
   int code = safe_number(database, &number);
   if (code) return code;
@@ -218,15 +251,14 @@ static int drop(pdt_database *database, const char *name) {
   pdti_remove_image(database, entry->number, entry->image.folder);
   pdti_remove_types(database, entry->number);
   pdti_free_entry(entry);
+  database->is_rested = false; /* it may have wanted a file of the journal */
   return PDT_OK;
 }
 
 pdt_code pdt_table_drop(pdt_database *database, const char *name) {
   if (!name || !pdti_is_ours(database) || pdti_has_prepared(database)) return PDT_MISUSE;
-  pthread_mutex_lock(&database->round_lock); /* the upkeep's checkpoints are none of the caller's */
   pthread_mutex_lock(&database->files_lock);
   int code = drop(database, name);
   pthread_mutex_unlock(&database->files_lock);
-  pthread_mutex_unlock(&database->round_lock);
   return code;
 }

@@ -172,7 +172,7 @@ void pdti_forget(pdt_txn *txn) {
 }
 
 void pdti_end(pdt_txn *txn) {
-  pdtr_abort(&txn->raw); /* what it shares with the store is counted atomically */
+  if (txn->raw.at) pdtr_abort(&txn->raw); /* what it shares with the store is counted atomically */
   pdti_forget(txn);
 }
 
@@ -209,10 +209,17 @@ static void prepared_here(pdt_txn *txn) {
   txn->process = getpid();
 }
 
-/* Ends a transaction whose commit was decided, and is refused. Under the store's lock. */
-static void end_refused(pdt_store *store, pdt_txn *txn, int code) {
+int pdti_decide(pdt_store *store, pdt_txn *txn, uint64_t *number) {
+  int code = (int)pdtr_prepare(&store->raw, &txn->raw, number, &txn->decision);
+  bool is_below = code == PDT_NOMEM && pdtr_begun(&txn->raw) < pdtr_floor(&store->raw);
+  if (!is_below) return code;
+  *number = pdtr_commits(&store->raw);
+  return PDT_TOO_OLD;
+}
+
+void pdti_refuse(pdt_store *store, pdt_txn *txn, int code) {
   uint64_t number = 0;
-  pdtr_install(&store->raw, &txn->raw, &txn->decision, &txn->ended, &number);
+  if (txn->decision.at) pdtr_install(&store->raw, &txn->raw, &txn->decision, &txn->ended, &number);
   pdti_count(store, code);
 }
 
@@ -229,7 +236,7 @@ pdt_code pdt_prepare(pdt_txn *txn, uint64_t *commits) {
   int code = store->database ? pdti_may_commit(store->database) : PDT_OK;
   bool is_open = code;
   if (!code) {
-    code = (int)pdtr_prepare(&store->raw, &txn->raw, &number, &txn->decision);
+    code = pdti_decide(store, txn, &number);
     is_open = code == PDT_NOMEM;
   }
   if (!code && store->database) {
@@ -242,13 +249,14 @@ pdt_code pdt_prepare(pdt_txn *txn, uint64_t *commits) {
     return code;
   }
   if (!is_open) { /* nothing is left to be written before it: it ends as a commit does */
-    end_refused(store, txn, code);
+    pdti_refuse(store, txn, code);
     if (store->database) number = pdti_newest(store->database);
   }
   pdti_leave(store);
   if (is_open) return pdti_let_go(txn), code;
+  if (code == PDT_CONFLICT && store->database) pdti_wait_out(store->database, number);
   if (commits) *commits = number;
-  pdti_forget(txn);
+  pdti_end(txn);
   return code;
 }
 

@@ -1,10 +1,11 @@
-/* What keeps a database fast and small while others commit: folds, images of the tables, and files that are needed no longer. */
+/* What keeps a database fast and small while others commit: folds, images of the tables, and files that are needed no longer; and once
+   none commits any more, what the manifest notes of the last ones. */
 #include "database.h"
 
 #include <signal.h>
 
 /* Where a round has folded the next one comes soon, so that what is folded at once stays little. */
-enum { EVERY_MS = 20, SOON_MS = 4, SYNC_ROUNDS = 50 };
+enum { EVERY_MS = 20, SOON_MS = 4, SYNC_ROUNDS = 50, QUIET_MS = 1000 };
 
 /* ---- what is due */
 
@@ -52,36 +53,54 @@ static bool is_long(pdt_database *database) {
 
 /* ---- images */
 
-/* Makes an image of a table, has the manifest name it, and makes it the stable table in memory. With files_lock held. */
-static int make_image(pdt_database *database, pdti_table *entry) {
-  pdt_open_checkpoint *checkpoint = NULL;
+/* Writes the files of an image of a table. Without files_lock: others make and drop tables meanwhile. */
+static int write_image(pdt_database *database, pdti_table *entry, pdt_open_checkpoint **checkpoint, table_image *made) {
   handle bytes = {NULL};
-  table_image made, before = entry->image;
-  int code = pdt_checkpoint_begin(entry->store, &made.number, &checkpoint);
-  if (!code) code = pdti_checkpoint_image(checkpoint, &bytes);
-  if (!code) code = pdti_write_image(database, entry, &bytes, &made);
+  int code = pdt_checkpoint_begin(entry->store, &made->number, checkpoint);
+  if (!code) code = pdti_checkpoint_image(*checkpoint, &bytes);
+  if (!code) code = pdti_write_image(database, entry, &bytes, made);
   int why = errno;
   if (bytes.at) pdtr_image_close(&bytes);
   errno = why;
-  if (!code) {
-    /* a table that no commit has changed begins with the number that renumber gave the image before: the files of the journal up to
-       that one may be gone. A commit that came since has a greater one. */
-    if (made.number < before.number) made.number = before.number;
-    uint64_t number = made.number; /* it is safe: the bytes of a table are made of no other */
-    entry->image = made;
-    bool in_doubt;
-    code = pdti_write_manifest(database, number, NULL, &in_doubt);
-    if (code) entry->image = before; /* where either may be named both stay */
-    if (code && !in_doubt) pdti_remove_image(database, entry->number, made.folder);
-  }
+  return code;
+}
+
+/* Has the manifest name an image in place of the one before, which goes. With files_lock held. */
+static int name_image(pdt_database *database, pdti_table *entry, table_image *made) {
+  table_image before = entry->image;
+  bool in_doubt;
+  /* a table that no commit has changed begins with the number that renumber gave the image before: the files of the journal up to
+     that one may be gone. A commit that came since has a greater one. */
+  if (made->number < before.number) made->number = before.number;
+  entry->image = *made;
+  int code = pdti_write_manifest(database, made->number, NULL, &in_doubt); /* it is safe: an image is made of no other table */
+  if (code) entry->image = before; /* where either may be named both stay */
+  if (!code) pdti_remove_image(database, entry->number, before.folder);
+  if (code && !in_doubt) pdti_remove_image(database, entry->number, made->folder);
+  return code;
+}
+
+/* Makes an image of a table, has the manifest name it, and makes it the stable table in memory. With files_lock held, which it gives back
+   while it writes. */
+static int make_image(pdt_database *database, pdti_table *entry) {
+  pdt_open_checkpoint *checkpoint = NULL;
+  table_image made = {.folder = database->next_folder++}; /* what an earlier try left may be named yet */
+  entry->is_imaged = true;
+  pthread_mutex_unlock(&database->files_lock);
+  int code = write_image(database, entry, &checkpoint, &made);
+  pthread_mutex_lock(&database->files_lock);
+  if (!code) code = name_image(database, entry, &made);
   if (!code) {
     database->images++;
-    pdti_remove_images(database);
     pdti_checkpoint_is_written(checkpoint);
     code = pdt_checkpoint_install(checkpoint);
     if (code == PDT_SUPERSEDED) code = PDT_OK; /* a fold of the caller's came between: the image is as good */
   }
+  int why = errno;
   pdt_checkpoint_end(checkpoint);
+  entry->is_imaged = false;
+  pthread_cond_broadcast(&database->image_ends);
+  errno = why;
   return code;
 }
 
@@ -97,7 +116,7 @@ static int tidy(pdt_database *database, uint64_t safe) {
     if (database->tables[i]->image.number < oldest) oldest = database->tables[i]->image.number;
   uint64_t first = pdti_first_wanted(database, oldest);
   if (!first) return PDT_GAP;
-  if (first == database->files[0].seq) return PDT_OK;
+  if (first == pdti_first_file(database)) return PDT_OK;
   int code = pdti_write_manifest(database, safe, NULL, NULL);
   if (!code) pdti_remove_journals(database, first);
   return code;
@@ -107,14 +126,17 @@ static int tidy(pdt_database *database, uint64_t safe) {
 
 /* What is known at the begin of a round. */
 typedef struct {
-  uint64_t safe;
+  uint64_t newest, safe;
   uint64_t wanted; /* each table gets an image that has the commits up to here */
 } round;
 
 static round begin_round(pdt_database *database) {
   bool is_journal_long = is_long(database);
+  pthread_mutex_lock(&database->locks.lock);
+  uint64_t newest = database->newest;
+  pthread_mutex_unlock(&database->locks.lock);
   pthread_mutex_lock(&database->turn_lock);
-  round now = {database->safe, 0};
+  round now = {newest, database->safe, 0};
   /* its first file goes once each image has the commits that are in it */
   if (is_journal_long) now.wanted = database->file_count > 1 && database->files[1].bytes ? database->files[1].base : database->safe;
   pthread_mutex_unlock(&database->turn_lock);
@@ -131,7 +153,7 @@ static int fold_where_large(pdt_database *database, pdt_store *store) {
   return code;
 }
 
-/* Does what is due of a table. With files_lock held. */
+/* Does what is due of a table. With files_lock held, which an image gives back. */
 static int keep_table(pdt_database *database, pdti_table *entry, const round *now) {
   measure of;
   int code = measure_table(entry->store, &of);
@@ -145,6 +167,20 @@ static int keep_table(pdt_database *database, pdti_table *entry, const round *no
   return fold_where_large(database, entry->store); /* after an image those that came while it was written, into an empty tree */
 }
 
+/* The manifest notes the last commit once none has come for a second: so damage to a database at rest is reported, and under load
+   nothing is written for it. With files_lock held. */
+static int note_where_quiet(pdt_database *database, uint64_t safe) {
+  struct timespec now;
+  clock_gettime(CLOCK_MONOTONIC, &now);
+  if (safe != database->quiet_at) {
+    database->quiet_at = safe;
+    database->quiet_since = now;
+    return PDT_OK;
+  }
+  int64_t passed = (int64_t)(now.tv_sec - database->quiet_since.tv_sec) * 1000 + (now.tv_nsec - database->quiet_since.tv_nsec) / 1000000;
+  return passed < QUIET_MS ? PDT_OK : pdti_note_safe(database);
+}
+
 /* Whether it takes commits: else there is nothing to keep up with, and no image may be made of what isn't safe. */
 static bool takes_commits(pdt_database *database) {
   pthread_mutex_lock(&database->locks.lock);
@@ -153,19 +189,50 @@ static bool takes_commits(pdt_database *database) {
   return takes;
 }
 
+/* The first table from a number on, or null: they are in the order of their numbers. */
+static pdti_table *next_table(const pdt_database *database, uint64_t number) {
+  size_t from = 0, to = database->count;
+  while (from < to) {
+    size_t middle = from + (to - from) / 2;
+    if (database->tables[middle]->number < number) from = middle + 1;
+    else to = middle;
+  }
+  return from < database->count ? database->tables[from] : NULL;
+}
+
+/* Does what is due of all tables and of the journal. With files_lock held, which an image gives back. */
+static int keep_all(pdt_database *database, const round *now) {
+  int code = PDT_OK;
+  uint64_t next = 0; /* the least number of a table that is left: others may be made and dropped while an image is written */
+  for (pdti_table *entry; (entry = next_table(database, next));) {
+    next = (uint64_t)entry->number + 1;
+    int one = keep_table(database, entry, now);
+    if (one) code = one;
+  }
+  int freed = pdti_let_go_of_oldest(database), last = tidy(database, now->safe);
+  return last ? last : freed ? freed : code;
+}
+
+/* Looks at all tables, where the last round has left something to do, or a commit has come since or become safe. With files_lock held, as
+   keep_all. */
+static int keep_changed(pdt_database *database, const round *now) {
+  if (database->is_rested && database->rested_newest == now->newest && database->rested_safe == now->safe) return PDT_OK;
+  uint64_t done = database->folds + database->images;
+  int code = keep_all(database, now);
+  database->is_rested = !code && done == database->folds + database->images;
+  database->rested_newest = now->newest;
+  database->rested_safe = now->safe;
+  return code;
+}
+
 /* One round at a time. */
 static int work_round(pdt_database *database) {
   if (!takes_commits(database)) return PDT_FAILED;
   pthread_mutex_lock(&database->round_lock);
   pthread_mutex_lock(&database->files_lock);
   round now = begin_round(database);
-  int code = PDT_OK;
-  for (size_t i = 0; i < database->count; i++) {
-    int one = keep_table(database, database->tables[i], &now);
-    if (one) code = one;
-  }
-  int last = tidy(database, now.safe);
-  if (last) code = last;
+  int code = keep_changed(database, &now), last = note_where_quiet(database, now.safe);
+  if (!code) code = last;
   database->faults += code != PDT_OK;
   pthread_mutex_unlock(&database->files_lock);
   pthread_mutex_unlock(&database->round_lock);
@@ -174,8 +241,12 @@ static int work_round(pdt_database *database) {
 
 pdt_code pdt_upkeep(pdt_database *database) {
   if (!pdti_is_ours(database)) return PDT_MISUSE;
+  if (database->options.read_only) return PDT_READONLY;
   int code = pdti_flush(database, true);
   if (code) return code == PDT_MISUSE ? code : PDT_FAILED;
+  pthread_mutex_lock(&database->files_lock);
+  database->is_rested = false;
+  pthread_mutex_unlock(&database->files_lock);
   return work_round(database);
 }
 

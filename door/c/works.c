@@ -15,8 +15,7 @@ typedef struct {
 static int prepare_all(pdt_txn *const *txns, size_t count, size_t *refused) {
   for (size_t i = 0; i < count; i++) {
     uint64_t number;
-    pdt_txn *txn = txns[i];
-    int code = (int)pdtr_prepare(&txn->store->raw, &txn->raw, &number, &txn->decision);
+    int code = pdti_decide(txns[i]->store, txns[i], &number);
     *refused = i;
     if (code) return code;
   }
@@ -31,11 +30,14 @@ static uint64_t install_all(pdt_database *database, pdt_txn *const *txns, size_t
     uint64_t local = 0;
     pdti_count(store, (int)pdtr_install(&store->raw, &txns[i]->raw, &txns[i]->decision, &txns[i]->ended, &local));
     pdti_number(store, local, number);
+    pdti_keep(store, local, txns[i]->part_bytes);
+    pdti_enter_changed(database, store);
     tables[i].made.at = NULL;
     (void)pdtr_pin(&store->raw, &tables[i].made); /* nothing, where malloc refuses it */
   }
   pthread_mutex_lock(&database->locks.fresh_lock); /* once: begins see all of it or nothing */
   for (size_t i = 0; i < count; i++) tables[i].before = pdti_share(txns[i]->store, tables[i].made);
+  if (!pdti_hides(database)) database->published = number;
   pthread_mutex_unlock(&database->locks.fresh_lock);
   return number;
 }
@@ -66,10 +68,7 @@ static int commit_all(pdt_database *database, pdt_txn *const *txns, size_t count
   bool is_refused = is_decided && code && code != PDT_NOMEM;
   if (!code) code = pdti_stage(database, txns, count);
   if (is_refused) {
-    pdt_store *store = txns[refused]->store;
-    uint64_t local = 0;
-    pdtr_install(&store->raw, &txns[refused]->raw, &txns[refused]->decision, &txns[refused]->ended, &local);
-    pdti_count(store, code);
+    pdti_refuse(txns[refused]->store, txns[refused], code);
     *number = database->newest;
   }
   if (!code) *number = install_all(database, txns, count, tables);
@@ -80,15 +79,11 @@ static int commit_all(pdt_database *database, pdt_txn *const *txns, size_t count
     code = wait_after(database, *number);
   } else if (!is_refused) {
     return code;
+  } else if (code == PDT_CONFLICT) {
+    pdti_wait_out(database, *number);
   }
   *over = true;
-  for (size_t i = 0; i < count; i++) {
-    if (txns[i]->raw.at) {
-      pdti_end(txns[i]);
-    } else {
-      pdti_forget(txns[i]);
-    }
-  }
+  for (size_t i = 0; i < count; i++) pdti_end(txns[i]);
   return code;
 }
 
@@ -183,6 +178,7 @@ static pdt_work *new_work(pdt_database *database, size_t count) {
    refused to share it: it is open then, so that nobody drops it. With fresh_lock held. */
 static int take_versions(pdt_work *work, pdt_store **hidden) {
   pdt_database *database = work->database;
+  work->begun = database->published; /* also where no table that is left has that number */
   for (size_t i = 0; i < database->count; i++) {
     pdt_store *store = database->tables[i]->store;
     if (!store->fresh.at) {
@@ -194,7 +190,6 @@ static int take_versions(pdt_work *work, pdt_store **hidden) {
     int code = (int)pdtr_pin_again(&store->fresh, &one->version);
     if (code) return code;
     *one = (part){store, one->version, store->commits, NULL};
-    if (one->commits > work->begun) work->begun = one->commits;
     store->open++;
     work->count++;
   }

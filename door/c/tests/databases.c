@@ -804,13 +804,20 @@ static void is_told(void) {
   change("damaged", "journal-1", 36 + 30, 1);
   damaged("a bit of the first frame", PDT_ROT, 1, "");
   copy_folder("whole", "damaged");
-  change("damaged", "journal-1", -1, 1); /* the last one: nobody says that it was safe */
+  change("damaged", "journal-1", -1, 1); /* the last one: the manifest notes that it was safe */
+  damaged("a bit of the last frame", PDT_ROT, 5, "");
+  copy_folder("whole", "open");
+  database = opened("open");
+  is("one more", 6, (long long)committed(table(database, "items"), 10, 40));
+  copy_folder("open", "damaged"); /* as a kill would leave it */
+  closed(database);
+  change("damaged", "journal-1", -1, 1); /* nothing says that the last one was safe */
   database = NULL;
   is("a bit of the last frame", PDT_OK, try_open("damaged", &database));
   is("is torn", 1, report.torn_bytes > 0);
-  is("commits", 4, (long long)report.commits);
-  is("the last but one", 3, qty(table(database, "items"), 10));
-  is("goes on", 5, (long long)committed(table(database, "items"), 10, 50));
+  is("commits", 5, (long long)report.commits);
+  is("the last but one", 4, qty(table(database, "items"), 10));
+  is("goes on", 6, (long long)committed(table(database, "items"), 10, 50));
   closed(database);
   is("again", PDT_OK, try_open("damaged", &database));
   is("nothing is torn", 0, (long long)report.torn_bytes);

@@ -70,6 +70,8 @@ static void without_file(void) {
   is_locked("with the file");
   is("unlink", 0, unlink(path_of("lock")));
   is_locked("without the file");
+  is("a refused opening leaves no file", -1, access(path_of("lock"), F_OK));
+  close(open(path_of("lock"), O_CREAT | O_WRONLY, 0600));
   is_locked("with a new one");
   in_child("in another process", is_locked); /* which has the files too, and ends */
   is_locked("after its end");
@@ -100,6 +102,23 @@ static void of_another(void) {
   closed(opened());
 }
 
+/* Where the file was the only lock and is gone, another process may have the database: nothing more is written. */
+static void without_lock(void) {
+  static const char csv[] = "key:int:key\n";
+  pdt_database *database = opened();
+  pdt_store *store;
+  is("create", PDT_OK, pdt_table_create_csv(database, "t", csv, sizeof csv - 1, NULL, NULL, &store));
+  is("unlink", 0, unlink(path_of("lock")));
+  is("the next list of files", PDT_LOCKED, pdt_table_create_csv(database, "u", csv, sizeof csv - 1, NULL, NULL, &store));
+  is("no more tables", PDT_FAILED, pdt_table_create_csv(database, "v", csv, sizeof csv - 1, NULL, NULL, &store));
+  (void)pdt_database_close(database);
+  database = opened();
+  is("the first is there", PDT_OK, pdt_table_open(database, "t", &store));
+  is("and no other", PDT_MISSING, pdt_table_open(database, "u", &store));
+  is("drop", PDT_OK, pdt_table_drop(database, "t"));
+  closed(database);
+}
+
 /* Where a file system locks no folder the file alone keeps others out. What fails otherwise is no lock. */
 static void without_folder(void) {
   static const int answers[] = {EBADF, EINVAL, EOPNOTSUPP};
@@ -108,6 +127,7 @@ static void without_folder(void) {
     pdt_database *database = opened();
     is_locked("by the file alone");
     closed(database);
+    without_lock();
   }
   fails_with = ENOLCK;
   pdt_database *database = NULL;

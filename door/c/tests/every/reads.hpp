@@ -464,10 +464,10 @@ static void read_own(Txn *t) {
 }
 static void read_counts(Store *s) {
   pdt_counts c{};
-  c.size = one_in(9) ? sizeof c - 8 : sizeof c;
+  c.size = one_in(9) ? 8 * (one_in(2) ? 1 : 1000) : sizeof c; // smaller than any header's, or garbage
   int code = D(pdt_count, s->h, &c);
-  if (c.size < sizeof c) {
-    answers("a small struct", PDT_MISUSE, code);
+  if (c.size != sizeof c) {
+    answers("a size that no header has", PDT_MISUSE, code);
     return;
   }
   answers("count", PDT_OK, code);
