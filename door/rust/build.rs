@@ -43,6 +43,8 @@ impl Library {
 /// The library that is linked. One that is named and isn't there is not made up for by another one.
 fn library() -> Result<Library, String> {
     if let Some(named) = env::var_os("PDT_LIB_DIR").map(PathBuf::from) {
+        // all of it: a static library may come later, beside a shared one
+        println!("cargo::rerun-if-changed={}", named.display());
         let none = || format!("PDT_LIB_DIR is {}, which has no libpdt.a and no libpdt.so", named.display());
         return Library::of(&named).ok_or_else(none);
     }

@@ -4,10 +4,11 @@
 //! another library, which moves what it takes, and a stream of another library's is moved here by
 //! [`ArrowArrayStream::take`]. `door/c/pdt_arrow.h` says which formats go out and come in.
 use crate::cells::owned;
+use crate::columns::passed_name;
 use crate::error::done;
 use crate::transaction::Ending;
 use crate::{Error, Options, Pin, Store, Transaction, ffi};
-use std::ffi::{CStr, CString, c_char, c_int, c_void};
+use std::ffi::{CStr, c_char, c_int, c_void};
 use std::fmt;
 use std::mem::zeroed;
 use std::ops::RangeBounds;
@@ -306,19 +307,21 @@ pub struct ArrowRefusal {
     pub row: u64,
     /// The column, which counts from 0 in the stream; 0 where none is meant.
     pub column: u64,
-    /// A sentence in English.
+    /// A sentence in English; empty where the error says all, and where there is no memory for one.
     pub cause: String,
 }
 
 impl From<Error> for ArrowRefusal {
     fn from(error: Error) -> ArrowRefusal {
-        ArrowRefusal { error, row: 0, column: 0, cause: error.to_string() }
+        ArrowRefusal { error, row: 0, column: 0, cause: String::new() }
     }
 }
 
 impl fmt::Display for ArrowRefusal {
     fn fmt(&self, f: &mut fmt::Formatter<'_>) -> fmt::Result {
-        write!(f, "row {}, column {}: {}", self.row, self.column, self.cause)
+        let ArrowRefusal { error, row, column, cause } = self;
+        write!(f, "row {row}, column {column}: ")?;
+        if cause.is_empty() { error.fmt(f) } else { f.write_str(cause) }
     }
 }
 
@@ -326,8 +329,9 @@ impl std::error::Error for ArrowRefusal {}
 
 fn answer(code: c_int, fault: &ffi::ArrowFault) -> Result<(), ArrowRefusal> {
     let Err(error) = done(code) else { return Ok(()) };
-    let cause: Vec<u8> = fault.cause.iter().take_while(|byte| **byte != 0).map(|byte| *byte as u8).collect();
-    let cause = if cause.is_empty() { error.to_string() } else { String::from_utf8_lossy(&cause).into_owned() };
+    // SAFETY: the library ends the cause with a zero, of which there is one at the end from the beginning.
+    let cause = unsafe { CStr::from_ptr(fault.cause.as_ptr()) };
+    let cause = owned(cause.to_str().unwrap_or_default()).unwrap_or_default();
     Err(ArrowRefusal { error, row: fault.place.row, column: fault.place.column, cause })
 }
 
@@ -347,6 +351,9 @@ fn within(positions: impl RangeBounds<u64>) -> (u64, u64) {
     (from, to)
 }
 
+/// How many bytes the format of a declared column has at most, with a zero at its end.
+const FORMAT_BYTES: usize = 64;
+
 impl Store {
     /// Opens a store over the rows of a stream, in any order. The columns of these names are the key; the others come
     /// after them. [`ArrowRefusal`].
@@ -362,23 +369,25 @@ impl Store {
 
     /// Declares what the numbers of an int column stand for, as Arrow's C data interface spells it: `c"tdD"` are dates,
     /// `c"g"` doubles, and after `?` the least number is a null. Streams have the column so; all else has the same
-    /// numbers. None takes it back. [`Error::Shape`].
-    pub fn declare(&mut self, column: usize, format: Option<&CStr>) -> Result<(), Error> {
-        // SAFETY: the store is open, and nobody else uses it; the format ends with a zero.
+    /// numbers. None takes it back. Other threads may use the store meanwhile: a stream that has begun goes out as
+    /// before. [`Error::Shape`]; of a table of a database also [`Error::Io`] and [`Error::ReadOnly`].
+    pub fn declare(&self, column: usize, format: Option<&CStr>) -> Result<(), Error> {
+        // SAFETY: the store is open, and the library lets other threads use it; the format ends with a zero.
         done(unsafe { ffi::pdt_declare(self.as_raw(), column, format.map_or(ptr::null(), CStr::as_ptr)) })
     }
 
     /// What a column is declared as, if it is: so is what came in by Arrow as doubles, dates, times or decimals.
     /// [`Error::NoMemory`].
     pub fn declared(&self, column: usize) -> Result<Option<String>, Error> {
-        // SAFETY: the store is open.
-        let format = unsafe { ffi::pdt_declared(self.as_raw(), column) };
-        if format.is_null() {
-            return Ok(None);
+        let mut format = [0; FORMAT_BYTES];
+        // SAFETY: the store is open, and there is as much room as is said.
+        match unsafe { ffi::pdt_declared_copy(self.as_raw(), column, format.as_mut_ptr(), format.len()) } {
+            ffi::SHAPE => return Ok(None), // there is no such column
+            code => done(code)?,
         }
-        // SAFETY: a format ends with a zero, and stays until the column is declared again, for which nobody may use it.
-        let format = unsafe { CStr::from_ptr(format) };
-        owned(format.to_str().unwrap_or_default()).map(Some)
+        // SAFETY: the library has written a zero behind the format.
+        let format = unsafe { CStr::from_ptr(format.as_ptr()) };
+        if format.is_empty() { Ok(None) } else { owned(format.to_str().unwrap_or_default()).map(Some) }
     }
 }
 
@@ -387,9 +396,13 @@ pub(crate) fn open(
     key: &[&str],
     call: impl FnOnce(&[*const c_char], &mut ffi::ArrowFault, &mut *mut ffi::Store) -> c_int,
 ) -> Result<*mut ffi::Store, ArrowRefusal> {
-    let names: Vec<CString> =
-        key.iter().map(|name| CString::new(*name)).collect::<Result<_, _>>().map_err(|_| Error::BadTable)?;
-    let names_at: Vec<*const c_char> = names.iter().map(|name| name.as_ptr()).collect();
+    let (mut names, mut names_at) = (Vec::new(), Vec::new());
+    names.try_reserve_exact(key.len()).map_err(Error::from)?;
+    names_at.try_reserve_exact(key.len()).map_err(Error::from)?;
+    for name in key {
+        names.push(passed_name(name)?);
+    }
+    names_at.extend(names.iter().map(|name| name.as_ptr()));
     let (mut fault, mut raw) = (ffi::ArrowFault::default(), ptr::null_mut());
     let code = call(&names_at, &mut fault, &mut raw);
     answer(code, &fault).map(|()| raw)

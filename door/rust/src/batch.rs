@@ -278,6 +278,7 @@ fn read_cells(txn: &Open<'_>, column: usize, from: u64, numbers: &mut [i64], tex
 }
 
 /// The batches of a range of positions, in order. After one that was refused none comes.
+#[must_use = "batches are read as they are asked for"]
 #[derive(Debug)]
 pub struct Batches<'t> {
     txn: &'t Open<'t>,

@@ -19,6 +19,7 @@ use std::ptr::{self, NonNull};
 /// checkpoint.install()?;
 /// # Ok::<(), Error>(())
 /// ```
+#[must_use = "a checkpoint that is dropped ends, and is not installed"]
 pub struct Checkpoint<'s> {
     raw: NonNull<ffi::OpenCheckpoint>,
     number: u64,

@@ -70,6 +70,14 @@ impl ColumnValues<'_> {
     }
 }
 
+/// A name with a zero behind it. [`Error::BadTable`] where it has one, [`Error::NoMemory`].
+pub(crate) fn passed_name(name: &str) -> Result<CString, Error> {
+    let mut bytes = Vec::new();
+    bytes.try_reserve_exact(name.len() + 1)?;
+    bytes.extend_from_slice(name.as_bytes());
+    CString::new(bytes).map_err(|_| Error::BadTable)
+}
+
 /// Columns as the library takes them: where their values lie, and their names, each with a zero.
 pub(crate) struct Passed<'a> {
     columns: &'a [(&'a str, ColumnValues<'a>)],
@@ -81,10 +89,7 @@ impl<'a> Passed<'a> {
         let mut names = Vec::new();
         names.try_reserve_exact(columns.len())?;
         for (name, _) in columns {
-            let mut bytes = Vec::new();
-            bytes.try_reserve_exact(name.len() + 1)?;
-            bytes.extend_from_slice(name.as_bytes());
-            names.push(CString::new(bytes).map_err(|_| Error::BadTable)?);
+            names.push(passed_name(name)?);
         }
         Ok(Passed { columns, names })
     }

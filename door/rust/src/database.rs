@@ -294,10 +294,17 @@ impl Database {
 
     /// Closes the database, as a drop does, and says how that went. What was committed is on the device then, whatever
     /// the [`SyncMode`](crate::SyncMode). [`Error::Unsure`] where that fails: it is closed all the same.
-    /// [`Error::Misuse`] where a table's transaction, a pin or a work was forgotten: it stays open then, until the
-    /// process ends.
-    pub fn close(mut self) -> Result<(), Error> {
-        done(self.end())
+    /// [`Error::Misuse`] while a stream of [`Pin::arrow`](crate::Pin::arrow) isn't released, or where a table's
+    /// transaction, a pin or a work was forgotten: the error has the database then, which may be closed again.
+    pub fn close(mut self) -> Result<(), CloseError> {
+        match self.end() {
+            ffi::OK => Ok(()),
+            ffi::MISUSE => {
+                self.is_closed = false;
+                Err(CloseError { error: Error::Misuse, database: Some(self) })
+            }
+            code => Err(CloseError { error: done(code).err().unwrap_or(Error::Misuse), database: None }),
+        }
     }
 
     fn end(&mut self) -> c_int {
@@ -305,6 +312,30 @@ impl Database {
         // SAFETY: nobody else uses the database, since each table and work keeps it. Where a transaction of one was
         // forgotten the library answers MISUSE, and the database stays.
         unsafe { ffi::pdt_database_close(self.as_raw()) }
+    }
+}
+
+/// Why a database isn't closed, or what came of its close.
+#[derive(Debug)]
+pub struct CloseError {
+    /// [`Error::Misuse`], [`Error::Unsure`].
+    pub error: Error,
+    /// The database, where it is still open.
+    pub database: Option<Database>,
+}
+
+impl fmt::Display for CloseError {
+    fn fmt(&self, f: &mut fmt::Formatter<'_>) -> fmt::Result {
+        self.error.fmt(f)
+    }
+}
+
+impl std::error::Error for CloseError {}
+
+/// Drops the database, where the error has one.
+impl From<CloseError> for Error {
+    fn from(refused: CloseError) -> Error {
+        refused.error
     }
 }
 

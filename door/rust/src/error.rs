@@ -70,6 +70,12 @@ pub enum Error {
     Failed,
     /// What a transaction changes takes 4 GiB or more in the journal.
     TooLong,
+    /// The database was opened for reading alone.
+    ReadOnly,
+    /// A later version of the library wrote a file of the database: [`DatabaseError`](crate::DatabaseError) says which.
+    NewerFormat,
+    /// A code of a later version of the library than this crate is for.
+    Unknown(i32),
 }
 
 impl Error {
@@ -101,6 +107,9 @@ impl Error {
             Error::Unsure => ffi::UNSURE,
             Error::Failed => ffi::FAILED,
             Error::TooLong => ffi::TOO_LONG,
+            Error::ReadOnly => ffi::READONLY,
+            Error::NewerFormat => ffi::NEWER_FORMAT,
+            Error::Unknown(code) => code,
         }
     }
 
@@ -133,7 +142,9 @@ impl Error {
             ffi::UNSURE => Error::Unsure,
             ffi::FAILED => Error::Failed,
             ffi::TOO_LONG => Error::TooLong,
-            _ => unreachable!("pdt.h has no code {code}"),
+            ffi::READONLY => Error::ReadOnly,
+            ffi::NEWER_FORMAT => Error::NewerFormat,
+            code => Error::Unknown(code),
         }
     }
 }
@@ -247,6 +258,11 @@ pub enum Refusal<T> {
     Failed(T),
     /// What it changes takes 4 GiB or more in the journal: it is still open.
     TooLong(T),
+    /// The database was opened for reading alone: it is still open, for reads.
+    ReadOnly(T),
+    /// A code of a later version of the library than this crate is for: it is over as far as this crate knows, and what
+    /// it has isn't freed.
+    Unknown(i32),
 }
 
 /// Why a transaction isn't committed.
@@ -264,11 +280,12 @@ impl<T> Refusal<T> {
             ffi::MISUSE => return (Refusal::Misuse(given_back), None),
             ffi::FAILED => return (Refusal::Failed(given_back), None),
             ffi::TOO_LONG => return (Refusal::TooLong(given_back), None),
+            ffi::READONLY => return (Refusal::ReadOnly(given_back), None),
             ffi::CONFLICT => Refusal::Conflict(number),
             ffi::TOO_OLD => Refusal::TooOld(number),
             ffi::FULL => Refusal::Full(number),
             ffi::UNSURE => Refusal::Unsure,
-            code => unreachable!("no commit answers {code}"),
+            code => Refusal::Unknown(code),
         };
         (ended, Some(given_back))
     }
@@ -284,6 +301,8 @@ impl<T> Refusal<T> {
             Refusal::Misuse(_) => Error::Misuse,
             Refusal::Failed(_) => Error::Failed,
             Refusal::TooLong(_) => Error::TooLong,
+            Refusal::ReadOnly(_) => Error::ReadOnly,
+            Refusal::Unknown(code) => Error::Unknown(*code),
         }
     }
 }
@@ -309,11 +328,19 @@ mod tests {
 
     #[test]
     fn each_code_has_a_variant_and_a_sentence() {
-        for code in ffi::NOMEM..=ffi::TOO_LONG {
+        for code in ffi::NOMEM..=ffi::READONLY {
             let error = Error::of(code);
             assert_eq!(code, error.code());
             assert_ne!("no such code", error.to_string());
         }
+    }
+
+    #[test]
+    fn a_code_of_a_later_library_is_unknown() {
+        let later = ffi::READONLY + 1;
+        assert_eq!((Error::Unknown(later), later), (Error::of(later), Error::of(later).code()));
+        assert_eq!("no such code", Error::of(later).to_string());
+        assert!(matches!(Refusal::of(later, 7, ()), (Refusal::Unknown(code), Some(())) if code == later));
     }
 
     #[test]

@@ -171,6 +171,8 @@ pub const MISFIT: c_int = 23;
 pub const UNSURE: c_int = 24;
 pub const FAILED: c_int = 25;
 pub const TOO_LONG: c_int = 26;
+pub const NEWER_FORMAT: c_int = 27;
+pub const READONLY: c_int = 28;
 
 pub const INT: c_int = 1;
 pub const TEXT: c_int = 2;

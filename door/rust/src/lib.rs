@@ -307,7 +307,7 @@ pub use changes::{Change, Changes, Entries, Entry, Layer};
 pub use checkpoint::Checkpoint;
 pub use columns::{CheckpointError, ColumnValues, ColumnsError, ImagePart};
 pub use counts::Counts;
-pub use database::Database;
+pub use database::{CloseError, Database};
 pub use error::{CommitError, Error, OpenError, Refusal, TableFault, WorkError};
 pub use marks::Mark;
 pub use opening::{DatabaseCounts, DatabaseError, DatabaseOptions, Report, SyncMode};

@@ -25,12 +25,20 @@ pub struct DatabaseOptions {
     /// Whether the database has a thread of its own for folds and images: yes. Else
     /// [`Database::upkeep`](crate::Database::upkeep) does what is due.
     pub upkeep: bool,
+    /// Whether the database is only read, and nothing in its folder is made or changed: no. Several may read it at once.
+    /// Each call that would write is refused by [`Error::ReadOnly`].
+    pub read_only: bool,
     /// A Write-PDT of so many entries is folded: 1,024.
     pub fold_entries: u64,
     /// A table whose layers have so many entries, and a fiftieth of its rows, gets an image: 10,000.
     pub checkpoint_entries: u64,
     /// Above so many bytes of journal each table whose image is old gets one: 67,108,864.
     pub journal_bytes: u64,
+    /// The changes of the last commits, which late commits and [`Store::changes`](crate::Store::changes) need, are kept
+    /// up to about so many bytes over all tables, the oldest going first: 268,435,456.
+    pub kept_bytes: u64,
+    /// The mode of the files that it makes, less the umask: 0o666. Folders get the right to search beside that to read.
+    pub mode: u32,
 }
 
 impl Default for DatabaseOptions {
@@ -39,9 +47,12 @@ impl Default for DatabaseOptions {
             sync: SyncMode::Full,
             early_reads: false,
             upkeep: true,
+            read_only: false,
             fold_entries: 1024,
             checkpoint_entries: 10_000,
             journal_bytes: 64 << 20,
+            kept_bytes: 256 << 20,
+            mode: 0o666,
         }
     }
 }
@@ -49,8 +60,8 @@ impl Default for DatabaseOptions {
 impl DatabaseOptions {
     /// For the library, to which a zero stands for the default: here it is a limit outside its range.
     pub(crate) fn passed(&self) -> Result<ffi::DatabaseOptions, Error> {
-        let DatabaseOptions { fold_entries, checkpoint_entries, journal_bytes, .. } = *self;
-        if fold_entries == 0 || checkpoint_entries == 0 || journal_bytes == 0 {
+        let DatabaseOptions { fold_entries, checkpoint_entries, journal_bytes, kept_bytes, mode, .. } = *self;
+        if [fold_entries, checkpoint_entries, journal_bytes, kept_bytes, u64::from(mode)].contains(&0) || mode > 0o777 {
             return Err(Error::BadLimit);
         }
         let sync = match self.sync {
@@ -58,9 +69,18 @@ impl DatabaseOptions {
             SyncMode::Normal => ffi::SYNC_NORMAL,
             SyncMode::Off => ffi::SYNC_OFF,
         };
-        let (early_reads, no_upkeep) = (self.early_reads, !self.upkeep);
-        let size = size_of::<ffi::DatabaseOptions>();
-        Ok(ffi::DatabaseOptions { size, sync, early_reads, no_upkeep, fold_entries, checkpoint_entries, journal_bytes })
+        Ok(ffi::DatabaseOptions {
+            size: size_of::<ffi::DatabaseOptions>(),
+            sync,
+            early_reads: self.early_reads,
+            no_upkeep: !self.upkeep,
+            read_only: self.read_only,
+            fold_entries,
+            checkpoint_entries,
+            journal_bytes,
+            kept_bytes,
+            mode,
+        })
     }
 }
 
@@ -165,6 +185,8 @@ pub struct DatabaseCounts {
     pub journal_files: usize,
     /// How many tables there are.
     pub tables: usize,
+    /// How many bytes of memory, about, the changes of the last commits take.
+    pub kept_bytes: u64,
 }
 
 impl DatabaseCounts {
@@ -181,6 +203,7 @@ impl DatabaseCounts {
             journal_bytes: counts.journal_bytes,
             journal_files: counts.journal_files,
             tables: counts.tables,
+            kept_bytes: counts.kept_bytes,
         }
     }
 }

@@ -24,6 +24,7 @@ use std::ptr::{self, NonNull};
 /// assert_eq!((9, 9), (one?, other?));
 /// # Ok::<(), Error>(())
 /// ```
+#[must_use = "a pin that is dropped keeps nothing"]
 pub struct Pin<'s> {
     pub(crate) raw: NonNull<ffi::Pinned>,
     number: u64,

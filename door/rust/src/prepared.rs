@@ -27,6 +27,7 @@ use std::marker::PhantomData;
 /// assert_eq!(1, prepared.install());
 /// # Ok::<(), Error>(())
 /// ```
+#[must_use = "a prepared commit that is dropped is given up"]
 pub struct Prepared<'s> {
     txn: Transaction<'s>,
     number: u64,

@@ -63,6 +63,7 @@ impl Stretch {
 }
 
 /// The stretches of a range of positions, in order: see [`Transaction::stretches`](crate::Transaction::stretches).
+#[must_use = "stretches are read as they are asked for"]
 #[derive(Debug)]
 pub struct Stretches<'t> {
     txn: &'t Open<'t>,

@@ -33,6 +33,7 @@ pub struct Rank {
 /// A work's transaction over a table is a [`Part`](crate::Part): the same reads, writes and marks, but it ends with the
 /// work, and is neither committed nor prepared. What is to take either is generic: `fn f<E: Ending>(txn: &mut
 /// Transaction<'_, E>)`.
+#[must_use = "a transaction that is dropped is aborted"]
 pub struct Transaction<'s, E: Ending = Alone> {
     pub(crate) open: Open<'s>,
     marks: Marks,
@@ -102,24 +103,34 @@ impl<'s> Transaction<'s> {
     }
 
     /// Commits, and answers the number of the newest table; one that changes nothing takes no number, is never refused,
-    /// and answers the number that it [saw](Transaction::begun). It is over then, unless the refusal gives it back: as
-    /// [`CommitError::NoMemory`] does, where memory was refused.
+    /// and answers the number that it [saw](Transaction::begun). Where it is refused the transaction is over.
     ///
     /// ```
-    /// use narthexmace::{CommitError, Error, Options, Store};
+    /// use narthexmace::{Error, Options, Store};
     /// let store = Store::open("id:int:key,qty:int\n10,7\n", &Options::default())?;
     /// let (mut first, mut second) = (store.begin()?, store.begin()?);
     /// first.set([10], 1, 5)?;
     /// second.set([10], 1, 6)?;
     /// assert_eq!(1, first.commit()?);
-    /// assert!(matches!(second.commit(), Err(CommitError::Conflict(1))));
-    /// # Ok::<(), Error>(())
+    /// assert_eq!(Err(Error::Conflict), second.commit());
+    /// # Ok::<(), Box<dyn std::error::Error + Send + Sync>>(())
     /// ```
     ///
     /// Over a table of a [`Database`](crate::Database) it waits as its [`SyncMode`](crate::SyncMode) says, and the number
-    /// is that of the database's newest commit. Then also [`CommitError::Unsure`], which may come of one that changes
-    /// nothing too where reads are early, [`CommitError::Failed`] and [`CommitError::TooLong`].
-    pub fn commit(self) -> Result<u64, CommitError<'s>> {
+    /// is that of the database's newest commit.
+    ///
+    /// [`Error::Conflict`], [`Error::TooOld`], [`Error::Full`]; [`Error::NoMemory`]; [`Error::Misuse`] where this thread
+    /// has another commit of the store prepared. Over a table of a database also [`Error::Unsure`], which may come of one
+    /// that changes nothing too where reads are early, [`Error::Failed`], [`Error::TooLong`] and [`Error::ReadOnly`].
+    /// [`try_commit`](Transaction::try_commit) gives the transaction back where it is still open.
+    pub fn commit(self) -> Result<u64, Error> {
+        self.try_commit().map_err(Error::from)
+    }
+
+    /// As [`commit`](Transaction::commit), and the refusal has the number of the newest table where the transaction is
+    /// over, and else the transaction, which may commit again: as [`CommitError::NoMemory`] has, where memory was
+    /// refused.
+    pub fn try_commit(self) -> Result<u64, CommitError<'s>> {
         let mut number = 0;
         // SAFETY: the transaction is open; it is over then, unless the answer is one that gives it back.
         let code = unsafe { ffi::pdt_commit(self.raw(), &mut number) };
@@ -132,7 +143,12 @@ impl<'s> Transaction<'s> {
 
     /// Decides the commit and makes all that it wants, so that it can't fail any more: then a program writes its own
     /// log, and does it or gives it up. Refused as [`commit`](Transaction::commit).
-    pub fn prepare(self) -> Result<Prepared<'s>, CommitError<'s>> {
+    pub fn prepare(self) -> Result<Prepared<'s>, Error> {
+        self.try_prepare().map_err(Error::from)
+    }
+
+    /// As [`prepare`](Transaction::prepare), with a refusal as that of [`try_commit`](Transaction::try_commit).
+    pub fn try_prepare(self) -> Result<Prepared<'s>, CommitError<'s>> {
         let mut number = 0;
         // SAFETY: the transaction is open; it is so after OK too, and over after an answer that doesn't give it back.
         let code = unsafe { ffi::pdt_prepare(self.raw(), &mut number) };

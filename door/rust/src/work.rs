@@ -34,6 +34,7 @@ use std::ptr::{self, NonNull};
 /// # run(&folder).unwrap();
 /// # std::fs::remove_dir_all(&folder).unwrap();
 /// ```
+#[must_use = "a work that is dropped is aborted"]
 pub struct Work<'d> {
     raw: NonNull<ffi::Work>,
     parts: RefCell<Vec<Begun>>,
@@ -116,9 +117,15 @@ impl<'d> Work<'d> {
     }
 
     /// Commits on all tables that it has changed, or on none, as one commit with one number, and answers that; one that
-    /// changes nothing takes no number, and answers the number that it saw. It is over then, unless the refusal gives
-    /// it back.
-    pub fn commit(mut self) -> Result<u64, WorkError<'d>> {
+    /// changes nothing takes no number, and answers the number that it saw. Where it is refused the work is over: for the
+    /// causes see [`Transaction::commit`](crate::Transaction::commit).
+    pub fn commit(self) -> Result<u64, Error> {
+        self.try_commit().map_err(Error::from)
+    }
+
+    /// As [`commit`](Work::commit), and the refusal has the number of the newest commit where the work is over, and else
+    /// the work, which may commit again.
+    pub fn try_commit(mut self) -> Result<u64, WorkError<'d>> {
         let mut number = 0;
         // SAFETY: the work is open; it is over then, unless the answer is one that gives it back.
         let code = unsafe { ffi::pdt_work_commit(self.raw.as_ptr(), &mut number) };

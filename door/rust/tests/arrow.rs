@@ -4,6 +4,7 @@ mod fixtures;
 
 use fixtures::{Folder, opened as database};
 use narthexmace::{Apply, ArrowArrayStream, ArrowColumn, Error, Options, Store};
+use std::sync::Arc;
 
 fn opened() -> Store {
     let rows: String = (0..1000).map(|row| format!("{row},name{row},{}\n", row % 2 == 0)).collect();
@@ -35,6 +36,33 @@ fn what_goes_out_comes_in() {
     drop(store);
     assert_eq!((10, 2), (batch.rows(), batch.columns()));
     assert!(!batch.as_mut_ptr().is_null());
+}
+
+#[test]
+fn positions_are_those_of_each_kind_of_range() {
+    use std::ops::Bound::{Excluded, Included, Unbounded};
+    let store = opened();
+    let pin = store.pin().unwrap();
+    let txn = pin.begin().unwrap();
+    let all = [
+        ((Included(3), Excluded(6)), 3..6),
+        ((Included(3), Included(6)), 3..7),
+        ((Excluded(3), Excluded(6)), 4..6),
+        ((Excluded(3), Included(6)), 4..7),
+        ((Unbounded, Included(2)), 0..3),
+        ((Excluded(997), Unbounded), 998..1000),
+        ((Included(998), Included(u64::MAX)), 998..1000),
+        ((Excluded(u64::MAX), Unbounded), 0..0),
+    ];
+    for (range, wanted) in all {
+        for stream in [pin.arrow(&[], range, 0).unwrap(), txn.arrow(&[], range, 0).unwrap()] {
+            let again = Store::open_arrow(stream, &["id"], &Options::default()).unwrap();
+            let found = again.begin().unwrap();
+            let ids: Vec<_> =
+                (0..found.rows()).map(|at| found.row_at(at).unwrap().unwrap()[0].as_int().unwrap()).collect();
+            assert_eq!(wanted.clone().collect::<Vec<i64>>(), ids, "{range:?}");
+        }
+    }
 }
 
 #[test]
@@ -112,7 +140,7 @@ fn a_table_of_a_database_is_made_of_a_stream() {
 
 #[test]
 fn what_a_column_is_declared_as_goes_out_and_comes_in() {
-    let mut store = Store::open("id:int:key,day:int\n1,20000\n", &Options::default()).unwrap();
+    let store = Store::open("id:int:key,day:int\n1,20000\n", &Options::default()).unwrap();
     assert_eq!(None, store.declared(1).unwrap());
     store.declare(1, Some(c"tdD")).unwrap();
     let again =
@@ -121,5 +149,45 @@ fn what_a_column_is_declared_as_goes_out_and_comes_in() {
     assert_eq!(Err(Error::Shape), store.declare(0, Some(c"?l")));
     assert_eq!(Err(Error::Shape), store.declare(2, None));
     store.declare(1, None).unwrap();
-    assert_eq!(None, store.declared(1).unwrap());
+    assert_eq!((None, None), (store.declared(1).unwrap(), store.declared(2).unwrap()));
+}
+
+#[test]
+fn a_stream_keeps_a_database_open_until_it_is_released() {
+    let folder = Folder::in_memory("streams");
+    let (opened, _) = database(&folder);
+    let stream = {
+        let table = opened.create("t", "id:int:key\n1\n", &Options::default()).unwrap();
+        table.pin().unwrap().arrow(&[], .., 0).unwrap()
+    };
+    let refused = opened.close().unwrap_err();
+    assert_eq!(Error::Misuse, refused.error);
+    drop(stream);
+    refused.database.unwrap().close().unwrap();
+    database(&folder).0.close().unwrap(); // nobody has its folder any more
+}
+
+#[test]
+fn a_column_is_declared_while_others_read_its_format() {
+    let folder = Folder::in_memory("declared");
+    let database = Arc::new(database(&folder).0);
+    let table = database.create("t", "id:int:key,at:int\n1,1\n", &Options::default()).unwrap();
+    let (long, short) = (c"tsu:Some/Very_Long_Name_Of_A_Zone", c"tdD");
+    table.declare(1, Some(short)).unwrap(); // by a borrow of the database's
+    drop(table);
+    let (one, other) = (database.table_shared("t").unwrap(), database.table_shared("t").unwrap());
+    std::thread::scope(|threads| {
+        let writer = threads.spawn(|| {
+            for _ in 0..200 {
+                one.declare(1, Some(long)).unwrap();
+                one.declare(1, Some(short)).unwrap();
+            }
+        });
+        while !writer.is_finished() {
+            let format = other.declared(1).unwrap().unwrap();
+            assert!(format == long.to_str().unwrap() || format == short.to_str().unwrap(), "{format}");
+            let stream = other.pin().unwrap().arrow(&[], .., 0).unwrap();
+            assert!(Store::open_arrow(stream, &["id"], &Options::default()).unwrap().declared(1).unwrap().is_some());
+        }
+    });
 }

@@ -21,13 +21,13 @@ fn each_end_of_a_transaction_is_counted_once() {
     let (same, old) = (setting(&store, 10, 5), setting(&store, 30, 5));
     let (mut one, mut other) = (store.begin().unwrap(), store.begin().unwrap());
     setting(&store, 10, 6).commit().unwrap(); // 1
-    assert!(matches!(same.commit(), Err(CommitError::Conflict(1))));
+    assert!(matches!(same.try_commit(), Err(CommitError::Conflict(1))));
     one.insert([40, 4]).unwrap();
     other.insert([50, 5]).unwrap();
     one.prepare().unwrap().install(); // 2
-    assert!(matches!(other.prepare(), Err(CommitError::Full(2))));
+    assert!(matches!(other.try_prepare(), Err(CommitError::Full(2))));
     setting(&store, 20, 6).commit().unwrap(); // 3
-    assert!(matches!(old.commit(), Err(CommitError::TooOld(3))));
+    assert!(matches!(old.try_commit(), Err(CommitError::TooOld(3))));
     assert_eq!(3, store.begin().unwrap().commit().unwrap()); // changes nothing
     drop(setting(&store, 10, 7).prepare().unwrap());
     let counts = store.counts();

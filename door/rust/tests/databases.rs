@@ -3,7 +3,10 @@
 mod fixtures;
 
 use fixtures::{Folder, ITEMS, made, opened, qtys, refused, set};
-use narthexmace::{Cell, ColumnValues, ColumnsError, Database, DatabaseOptions, Error, OpenError, Options};
+use narthexmace::{
+    Cell, ColumnValues, ColumnsError, CommitError, Database, DatabaseOptions, Error, OpenError, Options,
+};
+use std::path::Path;
 use std::sync::Arc;
 use std::time::Duration;
 use std::{fs, thread};
@@ -144,6 +147,22 @@ fn whole(folder: &Folder) {
     }
 }
 
+fn copied(from: &Folder, to: &Folder) {
+    fn copy(from: &Path, to: &Path) {
+        fs::create_dir(to).unwrap();
+        for entry in fs::read_dir(from).unwrap() {
+            let path = entry.unwrap().path();
+            let place = to.join(path.file_name().unwrap());
+            if path.is_dir() {
+                copy(&path, &place);
+            } else {
+                fs::copy(&path, &place).unwrap();
+            }
+        }
+    }
+    copy(&from.0, &to.0);
+}
+
 /// Flips a bit of a file.
 fn damage(folder: &Folder, file: &str, at: usize) {
     let mut bytes = fs::read(folder.0.join(file)).unwrap();
@@ -181,8 +200,13 @@ fn damage_is_told_with_its_file_or_its_commit() {
 
 #[test]
 fn what_is_torn_is_cut_off() {
-    let folder = Folder::new("torn");
-    whole(&folder);
+    let (running, folder) = (Folder::new("running"), Folder::new("torn"));
+    let database = made(&running, &["items"]);
+    let items = database.table("items").unwrap();
+    for qty in 0..5 {
+        set(&items, 10, qty);
+    }
+    copied(&running, &folder); // as a power failure leaves it: no close has noted the last commit
     let last = fs::metadata(folder.0.join("journal-1")).unwrap().len() - 1;
     damage(&folder, "journal-1", last as usize);
     let (database, report) = opened(&folder);
@@ -201,12 +225,45 @@ fn openings_are_refused() {
         DatabaseOptions { fold_entries: 0, ..all },
         DatabaseOptions { checkpoint_entries: 0, ..all },
         DatabaseOptions { journal_bytes: 0, ..all },
+        DatabaseOptions { kept_bytes: 0, ..all },
+        DatabaseOptions { mode: 0, ..all },
+        DatabaseOptions { mode: 0o1000, ..all },
     ];
     for options in limits {
         assert_eq!(Error::BadLimit, Database::open(&folder, &options).unwrap_err().error);
     }
     assert_eq!(Error::Misuse, Database::open("", &all).unwrap_err().error);
     assert!(!folder.0.exists());
+}
+
+#[test]
+fn a_database_is_opened_for_reading_alone() {
+    let folder = Folder::new("reading");
+    drop(made(&folder, &["items"]));
+    let reads = DatabaseOptions { read_only: true, ..DatabaseOptions::default() };
+    let (one, _) = Database::open(&folder, &reads).unwrap();
+    let (other, _) = Database::open(&folder, &reads).unwrap();
+    assert_eq!(Error::Locked, Database::open(&folder, &DatabaseOptions::default()).unwrap_err().error);
+    assert_eq!(Some(Error::ReadOnly), one.create("more", ITEMS, &Options::default()).err().map(Error::from));
+    assert_eq!(Err(Error::ReadOnly), one.drop_table("items"));
+    let items = other.table("items").unwrap();
+    let mut txn = items.begin().unwrap();
+    txn.insert([77, 1]).unwrap();
+    let Err(CommitError::ReadOnly(txn)) = txn.try_commit() else { panic!("a commit is written") };
+    assert!(txn.get([77]).unwrap().is_some()); // it is still open
+    let nowhere = Folder::new("nothing-to-read");
+    assert_eq!(Error::Missing, Database::open(&nowhere, &reads).unwrap_err().error);
+    assert!(!nowhere.0.exists());
+}
+
+#[test]
+fn files_are_made_by_a_mode() {
+    use std::os::unix::fs::PermissionsExt;
+    let folder = Folder::new("mode");
+    let options = DatabaseOptions { mode: 0o600, ..DatabaseOptions::default() };
+    drop(Database::open(&folder, &options).unwrap());
+    let mode = |file: &str| folder.0.join(file).metadata().unwrap().permissions().mode() & 0o777;
+    assert_eq!((0o700, 0o600, 0o600), (mode("."), mode("manifest"), mode("journal-1")));
 }
 
 #[test]
@@ -237,6 +294,6 @@ fn what_is_forgotten_keeps_a_database_open() {
     let folder = Folder::new("forgotten");
     let database = made(&folder, &["a"]);
     std::mem::forget(database.begin().unwrap());
-    assert_eq!(Err(Error::Misuse), database.close());
+    assert_eq!(Error::Misuse, database.close().unwrap_err().error);
     assert_eq!(Error::Locked, refused(&folder).error);
 }

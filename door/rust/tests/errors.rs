@@ -120,13 +120,13 @@ fn commits_are_refused() {
     second.set([10], 3, 7).unwrap();
     third.set([20], 3, 7).unwrap();
     assert_eq!(1, first.commit().unwrap());
-    assert!(matches!(second.commit(), Err(CommitError::Conflict(1))));
+    assert!(matches!(second.try_commit(), Err(CommitError::Conflict(1))));
     let (mut one, mut other) = (begin(), begin());
     one.insert(cells![40, "Dee", true, 4]).unwrap();
     other.insert(cells![50, "Flo", true, 5]).unwrap();
     assert_eq!(2, one.commit().unwrap());
-    assert!(matches!(other.commit(), Err(CommitError::Full(2))));
-    assert!(matches!(third.commit(), Err(CommitError::TooOld(2))));
+    assert!(matches!(other.try_commit(), Err(CommitError::Full(2))));
+    assert!(matches!(third.try_commit(), Err(CommitError::TooOld(2))));
     assert_eq!(0, idle.commit().unwrap()); // it changes nothing, and is never too old
     assert_eq!(2, store.sizes().commits);
     assert_eq!(0, store.sizes().open_transactions);

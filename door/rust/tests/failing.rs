@@ -44,17 +44,17 @@ fn a_commit_over_which_the_device_fails_is_unsure_and_none_comes_after() {
         limit(fs::metadata(folder.0.join("journal-1")).unwrap().len());
         let work = if is_work {
             drop(prepared);
-            assert!(matches!(work.commit(), Err(WorkError::Unsure)));
+            assert!(matches!(work.try_commit(), Err(WorkError::Unsure)));
             database.begin().unwrap()
         } else {
             assert!(matches!(prepared.try_install(), Err(CommitError::Unsure)));
             work
         };
-        let Err(CommitError::Failed(later)) = later.commit() else { panic!("no commit is taken any more") };
+        let Err(CommitError::Failed(later)) = later.try_commit() else { panic!("no commit is taken any more") };
         assert_eq!(vec![8, 3], later.batch(&[1], ..).unwrap().ints(0).unwrap().iter().collect::<Vec<i64>>());
-        let Err(CommitError::Failed(later)) = later.prepare() else { panic!("none is prepared either") };
+        let Err(CommitError::Failed(later)) = later.try_prepare() else { panic!("none is prepared either") };
         work.on(&a).unwrap().set([10], 1, 1).unwrap();
-        let Err(WorkError::Failed(work)) = work.commit() else { panic!("no work is taken any more") };
+        let Err(WorkError::Failed(work)) = work.try_commit() else { panic!("no work is taken any more") };
         assert_eq!(2, work.on(&b).unwrap().rows()); // it is still open
         let refused = database.create("c", ITEMS, &Options::default()).err();
         assert_eq!(Some(OpenError::Other(Error::Failed)), refused);
@@ -62,7 +62,8 @@ fn a_commit_over_which_the_device_fails_is_unsure_and_none_comes_after() {
         drop((later, work));
         drop((a, b));
         assert_eq!(Err(Error::Failed), database.drop_table("a"));
-        assert_eq!(Err(Error::Unsure), database.close());
+        let refused = database.close().unwrap_err();
+        assert_eq!((Error::Unsure, true), (refused.error, refused.database.is_none()));
         limit(UNLIMITED);
         let (database, report) = opened(&folder);
         assert!((1..=2).contains(&report.commits), "{report:?}"); // the second one is there or not

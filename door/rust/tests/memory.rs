@@ -4,14 +4,14 @@
 mod fixtures;
 
 use fixtures::{GRANTED, LIVE, Run};
-use narthexmace::{Change, Entry, Error, Options, Row, Store, Transaction, cells};
+use narthexmace::{Apply, ArrowRefusal, Change, Entry, Error, Options, Row, Store, Transaction, cells};
 use std::collections::BTreeSet;
 use std::path::Path;
 use std::sync::Arc;
 use std::{env, fs, process};
 
 const TABLE: &str = "id:int:key,name:text,ok:bool,qty:int\n10,Ann,false,1\n20,Bob,true,2\n30,Cid,true,3\n";
-const CALLS: [&str; 23] = [
+const CALLS: [&str; 27] = [
     "open",
     "begin",
     "mark",
@@ -23,6 +23,10 @@ const CALLS: [&str; 23] = [
     "batch",
     "batches",
     "texts",
+    "schema",
+    "open_arrow",
+    "a refusal of open_arrow",
+    "a refusal of apply_arrow",
     "commit",
     "prepare",
     "pin",
@@ -81,6 +85,35 @@ fn follow(run: &mut Run, store: &Store, long: &str) {
     assert_eq!(2, texts.count());
 }
 
+/// Rows that go out by Arrow and come in again, and refusals of them, which have a sentence.
+fn exchange(run: &mut Run, store: &Store) {
+    let pin = run.made("pin", || store.pin());
+    let open = |recent| {
+        let options = Options { recent, ..Options::default() };
+        let stream = pin.arrow(&[], .., 0)?;
+        Store::open_arrow(stream, &["id"], &options).map_err(|refused| refused.error)
+    };
+    let columns = run.made("schema", || {
+        let mut stream = pin.arrow(&[], .., 0)?;
+        stream.schema().map(|schema| schema.columns()).map_err(|_| Error::NoMemory)
+    });
+    assert_eq!(4, columns);
+    let again = run.made("open_arrow", || open(1));
+    assert_eq!(rows_of(store), rows_of(&again));
+    let mut txn = run.made("begin", || again.begin());
+    run.made("a refusal of apply_arrow", || {
+        let stream = pin.arrow(&[], .., 0)?;
+        match txn.apply_arrow(stream, Apply::Insert) {
+            Err(ArrowRefusal { error: Error::Duplicate, .. }) => Ok(()),
+            refused => refused.map(|_| ()).map_err(|refused| refused.error),
+        }
+    });
+    run.made("a refusal of open_arrow", || match open(0) {
+        Err(Error::BadLimit) => Ok(()),
+        refused => refused.map(|_| ()),
+    });
+}
+
 /// Each call once, with an allocation refused after so many. Answers which were told, or none where none was refused.
 fn run(granted: usize, folder: &Path) -> Option<BTreeSet<&'static str>> {
     let mut run = Run { granted: Some(granted), told: BTreeSet::new() };
@@ -94,6 +127,7 @@ fn run(granted: usize, folder: &Path) -> Option<BTreeSet<&'static str>> {
     run.made("set", || txn.set([10], 2, false));
     assert_eq!(2, run.prepared(txn).install());
     follow(&mut run, &store, &long);
+    exchange(&mut run, &store);
     run.made("fold", || store.fold());
     let rows = rows_of(&store);
     let qty: Vec<_> = rows.iter().map(|row| (row[0].as_int(), row[3].as_int())).collect();
@@ -178,6 +212,9 @@ fn what_is_dropped_is_freed() {
     txn.insert(cells![15, "Dee", true, 5]).unwrap();
     assert_eq!(4, txn.batch(&[0, 1, 2, 3], ..).unwrap().rows());
     assert_eq!(4, txn.batches(&[0, 1], .., 3).unwrap().map(|batch| batch.unwrap().rows()).sum::<usize>());
+    let mut stream = txn.arrow(&[], .., 0).unwrap();
+    assert_eq!(4, stream.schema().unwrap().columns());
+    drop(stream);
     drop(txn);
     assert_eq!(opened, LIVE.get());
     let mut txn = store.begin().unwrap();

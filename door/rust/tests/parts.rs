@@ -64,14 +64,14 @@ fn what_a_commit_refuses_a_prepare_refuses() {
     let store = Store::open(TABLE, &Options { recent: 1, row_limit: 3, ..Options::default() }).unwrap();
     let (late, older) = (setting(&store, 10, 6), setting(&store, 30, 6));
     setting(&store, 10, 5).commit().unwrap();
-    assert!(matches!(late.prepare(), Err(CommitError::Conflict(1))));
+    assert!(matches!(late.try_prepare(), Err(CommitError::Conflict(1))));
     let (mut one, mut two) = (store.begin().unwrap(), store.begin().unwrap());
     one.delete([20]).unwrap();
     one.insert([40, 4]).unwrap();
     two.delete([30]).unwrap();
     two.insert([50, 4]).unwrap();
     one.commit().unwrap();
-    assert!(matches!(older.prepare(), Err(CommitError::TooOld(2))));
+    assert!(matches!(older.try_prepare(), Err(CommitError::TooOld(2))));
     two.prepare().unwrap().install();
     assert_eq!(0, store.sizes().open_transactions);
 }
@@ -81,8 +81,8 @@ fn a_thread_prepares_one_commit_at_a_time() {
     let store = opened();
     let (other, folder) = (setting(&store, 20, 6), Folder::new("one"));
     let prepared = setting(&store, 10, 5).prepare().unwrap();
-    let Err(CommitError::Misuse(other)) = other.prepare() else { panic!("two commits are prepared") };
-    let Err(CommitError::Misuse(other)) = other.commit() else { panic!("a commit came between") };
+    let Err(CommitError::Misuse(other)) = other.try_prepare() else { panic!("two commits are prepared") };
+    let Err(CommitError::Misuse(other)) = other.try_commit() else { panic!("a commit came between") };
     assert_eq!(Err(Error::Misuse), store.fold());
     assert_eq!(Some(Error::Misuse), store.changes(0).err());
     assert_eq!(vec![1, 2, 3], newest(&store)); // a begin is of the table as it was, and so is a pin

@@ -107,13 +107,13 @@ fn a_transaction_at_a_pin_commits_as_one_that_began_then() {
         txn.set([row], 1, 7).unwrap();
         txn
     };
-    assert!(matches!(begin(10).commit(), Err(CommitError::Conflict(1))));
+    assert!(matches!(begin(10).try_commit(), Err(CommitError::Conflict(1))));
     assert_eq!(2, begin(11).commit().unwrap());
-    assert!(matches!(begin(11).commit(), Err(CommitError::Conflict(2)))); // the pin's table doesn't move
+    assert!(matches!(begin(11).try_commit(), Err(CommitError::Conflict(2)))); // the pin's table doesn't move
     let late = begin(12);
     store.cut();
-    assert!(matches!(late.commit(), Err(CommitError::TooOld(2))));
-    assert!(matches!(begin(13).commit(), Err(CommitError::TooOld(2))));
+    assert!(matches!(late.try_commit(), Err(CommitError::TooOld(2))));
+    assert!(matches!(begin(13).try_commit(), Err(CommitError::TooOld(2))));
     assert_eq!(0, pin.begin().unwrap().commit().unwrap()); // it changes nothing
     assert_eq!(sum_at(0), sum(&pin.begin().unwrap()));
     assert_eq!(0, store.sizes().open_transactions);

@@ -64,10 +64,10 @@ fn run(granted: usize, folder: &Folder) -> Option<BTreeSet<&'static str>> {
         run.made("mark", || on_a.mark());
         run.made("on", || work.on(&b)).delete([20]).unwrap();
     }
-    assert_eq!(1, run.ended("commit", work, Work::commit));
+    assert_eq!(1, run.ended("commit", work, Work::try_commit));
     let work = run.made("begin_shared", || database.begin_shared());
     run.made("on", || work.on(&shared)).set([20], 1, 9).unwrap();
-    assert_eq!(2, run.ended("commit", work, Work::commit));
+    assert_eq!(2, run.ended("commit", work, Work::try_commit));
     run.made("upkeep", || database.upkeep());
     assert_eq!((vec![5, 9], vec![7]), (qtys(&a), qtys(&b)));
     drop(b);

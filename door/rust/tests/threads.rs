@@ -21,7 +21,7 @@ fn add(store: &Store, row: i64, amount: i64) -> Result<(u64, usize), Error> {
         let mut txn = store.begin()?;
         let sum = txn.get([row])?.and_then(|row| row[1].as_int()).ok_or(Error::Missing)?;
         txn.set([row], 1, sum + amount)?;
-        match txn.commit() {
+        match txn.try_commit() {
             Ok(commit) => return Ok((commit, refused)),
             Err(CommitError::Conflict(_) | CommitError::TooOld(_)) => refused += 1,
             Err(other) => return Err(other.error()),

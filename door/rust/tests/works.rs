@@ -28,7 +28,7 @@ fn a_work_is_committed_on_all_tables_or_on_none() {
     work.on(&a).unwrap().set([10], 1, 5).unwrap();
     work.on(&b).unwrap().set([10], 1, 5).unwrap();
     assert_eq!(2, set(&b, 10, 4));
-    assert!(matches!(work.commit(), Err(WorkError::Conflict(2))));
+    assert!(matches!(work.try_commit(), Err(WorkError::Conflict(2))));
     assert_eq!((vec![6, 2], vec![4, 2, 1]), (qtys(&a), qtys(&b)));
 
     let work = database.begin().unwrap();
@@ -101,7 +101,7 @@ fn a_commit_in_two_parts_is_put_into_the_journal() {
     assert!(matches!(database.create("b", ITEMS, &Options::default()), Err(OpenError::Other(Error::Misuse))));
     let work = database.begin().unwrap();
     work.on(&a).unwrap().set([20], 1, 5).unwrap();
-    let Err(WorkError::Misuse(work)) = work.commit() else { panic!("a commit came between") };
+    let Err(WorkError::Misuse(work)) = work.try_commit() else { panic!("a commit came between") };
     assert_eq!((1, 1), (prepared.number(), prepared.try_install().unwrap()));
     assert_eq!(2, work.commit().unwrap()); // of another row
     let mut txn = a.begin().unwrap();
@@ -123,7 +123,7 @@ fn is_moved(database: &Database, banks: [&Store; 2], accounts: [i64; 2]) -> bool
         let money = txn.get([account]).unwrap().unwrap()[1].as_int().unwrap();
         txn.set([account], 1, money + more).unwrap();
     }
-    match work.commit() {
+    match work.try_commit() {
         Ok(_) => true,
         Err(WorkError::Conflict(_)) => false,
         Err(other) => panic!("{other}"),

@@ -36,7 +36,7 @@ unsafe extern "C" {
         stream: *mut ArrowArrayStream,
     ) -> c_int;
     pub fn pdt_declare(store: *mut Store, column: usize, format: *const c_char) -> c_int;
-    pub fn pdt_declared(store: *const Store, column: usize) -> *const c_char;
+    pub fn pdt_declared_copy(store: *const Store, column: usize, format: *mut c_char, room: usize) -> c_int;
     pub fn pdt_open_arrow(
         stream: *mut ArrowArrayStream,
         key: *const *const c_char,

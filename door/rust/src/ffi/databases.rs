@@ -1,6 +1,6 @@
 //! The last part of `door/c/pdt.h`: databases.
 use super::{Column, Fault, Options, Place, Store, Txn};
-use std::ffi::{c_char, c_int, c_void};
+use std::ffi::{c_char, c_int, c_uint, c_void};
 use std::marker::{PhantomData, PhantomPinned};
 
 /// A `pdt_database`, known by its address.
@@ -23,9 +23,12 @@ pub struct DatabaseOptions {
     pub sync: c_int,
     pub early_reads: bool,
     pub no_upkeep: bool,
+    pub read_only: bool,
     pub fold_entries: u64,
     pub checkpoint_entries: u64,
     pub journal_bytes: u64,
+    pub kept_bytes: u64,
+    pub mode: c_uint,
 }
 
 pub const FILE_NAME: usize = 64;
@@ -54,6 +57,7 @@ pub struct DatabaseCounts {
     pub journal_bytes: u64,
     pub journal_files: usize,
     pub tables: usize,
+    pub kept_bytes: u64,
 }
 
 pub const SYNC_FULL: c_int = 0;

@@ -193,7 +193,7 @@ impl<'s> Run<'s> {
         if self.pins.is_empty() {
             return "NoPin";
         }
-        self.pins.remove(self.draw.below(self.pins.len()));
+        drop(self.pins.remove(self.draw.below(self.pins.len())));
         "Unpinned"
     }
 
@@ -323,7 +323,7 @@ impl<'s> Run<'s> {
     fn commit(&mut self, client: Client<'_>) -> &'static str {
         let wanted = self.model.commit(client.open);
         let number = self.model.number();
-        let found = match client.txn.commit() {
+        let found = match client.txn.try_commit() {
             Ok(number) => Ok(number),
             Err(CommitError::Conflict(newest)) => Err((Refusal::Conflict, newest)),
             Err(CommitError::TooOld(newest)) => Err((Refusal::TooOld, newest)),
