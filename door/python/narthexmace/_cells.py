@@ -3,6 +3,7 @@ from __future__ import annotations
 
 import ctypes
 import operator
+import reprlib
 from typing import Any, Iterable, List, Mapping, NamedTuple, Optional, Sequence, Tuple, Union
 
 from ._declared import Declared, declared_as
@@ -16,9 +17,16 @@ Key = Union[Cell, Sequence[Cell]]
 #: The numbers of cells, the bytes of their texts, and how many these are.
 Passed = Tuple[Any, bytes, int]
 
+_TELLS = reprlib.Repr()
+_TELLS.maxstring = _TELLS.maxother = 80
+
 INT, TEXT, BOOL = "int", "text", "bool"
 TYPES = {1: INT, 2: TEXT, 3: BOOL}
 LEAST, MOST = -(2**63), 2**63 - 1
+
+
+#: The formats that most columns of other values want, for people.
+DECLARED = "'tdD' of dates, 'tsu:' of timestamps, 'g' of floats, 'd:15,2' of Decimals, and with '?' before it of None too"
 
 
 class Column(NamedTuple):
@@ -64,7 +72,7 @@ def is_time(value: object) -> bool:
 def number_of(value: object) -> int:
     """A value as a cell of an int column. A float is none, and neither is a truth, or a date or time of numpy."""
     if is_time(value):
-        raise Shape(f"{value!r} stands where an int should: columns have no dates or times; astype('int64') makes ints")
+        raise Shape(f"{value!r} stands where an int should: a column of dates or times is declared, as {DECLARED}")
     if is_truth(value):
         raise Shape(f"{value!r} stands where an int should")
     try:
@@ -96,6 +104,14 @@ def truth_of(value: object) -> bool:
     return bool(value)
 
 
+def _other_columns(row: Mapping[str, Any], names: Sequence[str]) -> str:
+    """Why a row by names has not the columns of a table."""
+    for name in names:
+        if name not in row:
+            return f"the row has no column {name!r}"
+    return f"the table has no column {next(name for name in row if name not in names)!r}"
+
+
 class Shaping:
     """The columns of a store, and how cells go to C and come back."""
 
@@ -104,7 +120,8 @@ class Shaping:
         self.names = tuple(column.name for column in columns)
         self.types = tuple(column.type for column in columns)
         self.keys = sum(column.key for column in columns)
-        #: What the ints of each column stand for, where it is declared.
+        #: The format that each column is declared as, and what its ints stand for.
+        self.formats: List[Optional[str]] = [None] * len(columns)
         self.declared: List[Optional[Declared]] = [None] * len(columns)
         self.place = {name: place for place, name in enumerate(self.names)}
         self.numbers = ctypes.c_int64 * len(columns)
@@ -120,7 +137,7 @@ class Shaping:
         """A row for C: its cells in the order of the columns, or by their names."""
         if isinstance(row, Mapping):
             if set(row) != set(self.names):
-                raise Shape(f"the row has not the columns {', '.join(self.names)}")
+                raise Shape(_other_columns(row, self.names))
             row = [row[name] for name in self.names]
         return self._passed(row, len(self.types), "row")
 
@@ -142,10 +159,17 @@ class Shaping:
 
     def declare(self, place: int, format_: Optional[str]) -> None:
         """Notes what a column is declared as."""
+        self.formats[place] = format_
         self.declared[place] = None if format_ is None else declared_as(format_)
 
     def cell(self, cell: Cell, place: int) -> Tuple[int, bytes]:
-        """A cell of a column for C: its number and its bytes."""
+        """A cell of a column for C: its number and its bytes. Shape, which names the column."""
+        try:
+            return self._written(cell, place)
+        except Shape as fault:
+            raise Shape(f"column {self.names[place]!r}: {fault}") from None
+
+    def _written(self, cell: Cell, place: int) -> Tuple[int, bytes]:
         type_, declared = self.types[place], self.declared[place]
         if declared is not None:
             return declared.number(cell), b""
@@ -155,6 +179,16 @@ class Shaping:
             return int(truth_of(cell)), b""
         text = bytes_of(cell)
         return len(text), text
+
+    def key_in(self, row: Union[Sequence[Cell], Mapping[str, Cell]]) -> Key:
+        """The key of a row, as it is given."""
+        cells = [row[name] for name in self.names[: self.keys]] if isinstance(row, Mapping) else row[: self.keys]
+        return tuple(cells)
+
+    def told(self, key: Key) -> str:
+        """A key for people: a long text is cut."""
+        cells = key if isinstance(key, (tuple, list)) else (key,)
+        return _TELLS.repr(cells[0] if len(cells) == 1 else tuple(cells))
 
     def row_of(self, numbers: Iterable[int], texts: memoryview) -> Row:
         """The row whose cells C has put there."""

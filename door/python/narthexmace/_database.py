@@ -11,7 +11,7 @@ from typing import Any, Dict, Iterator, Mapping, NamedTuple, Optional, Type
 from ._database_handles import DatabaseHandle, WorkHandle, name_of
 from ._errors import BadLimit, Misuse, Path, Shape, Unsure, check_files, check_made, check_opening
 from ._handles import Single
-from ._library import CHECKPOINT_ENTRIES, FOLD_ENTRIES, JOURNAL_BYTES, MAX_NAME, MAX_RECENT, MAX_ROWS
+from ._library import CHECKPOINT_ENTRIES, FOLD_ENTRIES, JOURNAL_BYTES, KEPT_BYTES, MAX_NAME, MAX_RECENT, MAX_ROWS
 from ._library import DatabaseOptions, ReportOf, library
 from ._opening import Calls, Formats, folder_of, open_table, options_of
 from ._store import Store
@@ -41,6 +41,7 @@ class DatabaseCounts(NamedTuple):
     device. ``batches`` is how often the journal was written, of one commit or of several at once, and ``syncs`` how
     often it was synced. ``folds`` and ``images`` of tables were made by the upkeep, and ``faults`` is how often
     something that was due has failed. The files of the journal are ``journal_files``, and have ``journal_bytes``.
+    ``kept_bytes`` is how much memory, about, the changes of the last commits take.
     """
 
     commits: int
@@ -53,6 +54,7 @@ class DatabaseCounts(NamedTuple):
     journal_bytes: int
     journal_files: int
     tables: int
+    kept_bytes: int
 
 
 def connect(
@@ -64,6 +66,9 @@ def connect(
     fold_entries: int = FOLD_ENTRIES,
     checkpoint_entries: int = CHECKPOINT_ENTRIES,
     journal_bytes: int = JOURNAL_BYTES,
+    kept_bytes: int = KEPT_BYTES,
+    mode: int = 0o666,
+    read_only: bool = False,
 ) -> "Database":
     """Opens the database in a folder, which is made where there is none: ``with narthexmace.connect("shop") as db:``.
 
@@ -77,15 +82,29 @@ def connect(
     there is none: ``Database.upkeep`` does it, and has the device take what a ``sync`` other than "full" has left for
     later. A table's newest changes are folded once they have ``fold_entries``
     entries. It gets an image once all its changes since the last one have ``checkpoint_entries``, and as many as a
-    fiftieth of its rows. Above ``journal_bytes`` of journal each table whose image is old gets one.
+    fiftieth of its rows. Above ``journal_bytes`` of journal each table whose image is old gets one. The changes of the
+    last commits, which late commits and ``Store.changes`` need, are kept up to about ``kept_bytes`` of memory over all
+    tables; the oldest go first.
+
+    Files are made with ``mode``, less the umask, and folders with the right to search beside that to read.
+
+    With ``read_only`` nothing in the folder is made or changed: it may be on a read-only file system, and several
+    processes may read it at once. What would write raises ReadOnlyDatabase. Missing: there is no database in it.
 
     Locked: it is open already, here or in another process. Rot: what was safe is damaged. Gap: a file or a commit is
     missing. Misfit: the journal isn't of these tables. BadStore, BadTable, NoImage: a file can't be read as what it is.
-    Each says which file, or which commit. FileFailed: a file can't be made or read, also where the folder above isn't
+    NewerFormat: a later version of the library wrote it. Each says which file, or which commit. FileFailed: a file can't be made or read, also where the folder above isn't
     there. BadLimit: an option isn't one. NoMemory: all tables, and the journal, are read into memory. After each of
     them no file has changed.
     """
-    options = _options_of(sync, early_reads, upkeep, fold_entries, checkpoint_entries, journal_bytes)
+    limits = {
+        "fold_entries": fold_entries,
+        "checkpoint_entries": checkpoint_entries,
+        "journal_bytes": journal_bytes,
+        "kept_bytes": kept_bytes,
+    }
+    options = _options_of(sync, limits, mode)
+    options.early_reads, options.no_upkeep, options.read_only = bool(early_reads), not upkeep, bool(read_only)
     handle, report, path = DatabaseHandle(folder), ReportOf(ctypes.sizeof(ReportOf)), folder_of(folder)
     if not path:
         raise Misuse("the folder of a database has a name")
@@ -93,17 +112,16 @@ def connect(
     return Database(handle, Report(report.commits, report.replayed, report.torn_bytes))
 
 
-def _options_of(
-    sync: str, early_reads: bool, upkeep: bool, fold_entries: int, checkpoint_entries: int, journal_bytes: int
-) -> DatabaseOptions:
+def _options_of(sync: str, limits: Dict[str, int], mode: int) -> DatabaseOptions:
     if sync not in _SYNCS:
         raise BadLimit(f'sync is {sync!r}, and not "full", "normal" or "off"')
-    limits = {"fold_entries": fold_entries, "checkpoint_entries": checkpoint_entries, "journal_bytes": journal_bytes}
     for name, limit in limits.items():
         if not 1 <= operator.index(limit) < 2**64:
             raise BadLimit(f"{name} is {limit}, and not from 1 to 2**64 - 1")
-    given = (operator.index(limit) for limit in limits.values())
-    return DatabaseOptions(ctypes.sizeof(DatabaseOptions), _SYNCS[sync], bool(early_reads), not upkeep, *given)
+    if not 1 <= operator.index(mode) <= 0o777:
+        raise BadLimit(f"mode is {mode:#o}, and not from 0o1 to 0o777")
+    given = {name: operator.index(limit) for name, limit in limits.items()}
+    return DatabaseOptions(size=ctypes.sizeof(DatabaseOptions), sync=_SYNCS[sync], mode=operator.index(mode), **given)
 
 
 def _formats_of(formats: Formats) -> Any:
@@ -222,7 +240,7 @@ class Database(Single):
 
     def read(self) -> Moment:
         """All tables as they are at this moment, for reading. It commits nothing, and waits for no commit. NoMemory."""
-        return Moment(WorkHandle(self._handle))
+        return Moment(WorkHandle(self._handle, reads=True))
 
     # ---- as a whole
 
@@ -242,7 +260,9 @@ class Database(Single):
     def close(self) -> None:
         """Closes it and its tables. What was committed is on the device then. Closing again is no error.
 
-        Misuse while a transaction or a snapshot is open, a pin kept, or another thread in a call: it stays open then.
+        Snapshots, pins and scans of Arrow's end with it, as those of ``Store.close`` do. Misuse while a transaction or a
+        stream of Arrow's is open, an array is over memory that ``pieces`` lent, or another thread is in a call: it stays
+        open then.
         Unsure, where the device fails: it is closed, and the last commits are there or not.
         """
         try:

@@ -7,12 +7,12 @@ import threading
 import warnings
 import weakref
 from ctypes import byref, c_uint64, c_void_p
-from typing import Callable, Dict, List, Optional
+from typing import Any, Callable, Dict, List, Optional
 
 from ._cells import Shaping, shaping_at
 from ._errors import Misuse, Missing, Path, check, check_files
-from ._handles import Address, Shared, Single, StoreHandle, TransactionHandle
-from ._library import MAX_NAME, NO_NUMBER, CountsOf, DatabaseCountsOf, library
+from ._handles import Address, Shared, Single, StoreHandle, TransactionHandle, call_into, take
+from ._library import MAX_NAME, NO_NUMBER, DatabaseCountsOf, library
 
 
 def name_of(name: object) -> Optional[bytes]:
@@ -30,12 +30,12 @@ class DatabaseHandle(Shared):
     kind = "database"
 
     def __init__(self, folder: Path) -> None:
-        super().__init__()
         self.folder = folder
         self._process = os.getpid()
         # those that somebody has: a drop takes their addresses away
-        self._tables: "weakref.WeakValueDictionary[bytes, TableHandle]" = weakref.WeakValueDictionary()
+        self._tables: Dict[bytes, "weakref.ref[TableHandle]"] = {}
         self._tables_lock = threading.RLock()
+        super().__init__()
 
     def __enter__(self) -> int:
         if os.getpid() != self._process:
@@ -79,15 +79,21 @@ class DatabaseHandle(Shared):
         """The table of a name, the same one for as long as somebody has it. Missing where there is none."""
         encoded, room = name_of(name), c_void_p()
         with self._tables_lock, self as at:
-            handle = None if encoded is None else self._tables.get(encoded)
+            handle = None if encoded is None else self._had(encoded)
             if handle is not None:
                 return handle
             code: int = Missing.code if encoded is None else library.pdt_table_open(at, encoded, byref(room))
             if code == Missing.code or encoded is None:
                 raise self._missing(name)
             check(code)
-            handle = self._tables[encoded] = TableHandle(self, encoded.decode(), room)
+            handle = TableHandle(self, encoded.decode(), room)
+            self._tables[encoded] = weakref.ref(handle)
             return handle
+
+    def _had(self, encoded: bytes) -> Optional["TableHandle"]:
+        """The table of a name that somebody has."""
+        kept = self._tables.get(encoded)
+        return None if kept is None else kept()
 
     def _missing(self, name: object) -> Missing:
         return Missing(f"there is no table {name!r} in {os.fsdecode(self.folder)!r}")
@@ -98,12 +104,9 @@ class DatabaseHandle(Shared):
         if encoded is None:
             raise self._missing(name)
         with self._tables_lock, self as at:
-            table = self._tables.get(encoded)
-
-            def call() -> int:
-                return int(library.pdt_table_drop(at, encoded))
-
-            code = call() if table is None else table.dropped_by(call)
+            table = self._had(encoded)
+            given = library.pdt_table_drop, at, encoded
+            code: int = given[0](*given[1:]) if table is None else table.dropped_by(*given)
             if code == 0:
                 self._tables.pop(encoded, None)
         if code == Missing.code:
@@ -115,23 +118,24 @@ class DatabaseHandle(Shared):
     # ---- the end
 
     @staticmethod
-    def _freed(at: c_void_p) -> int:
-        return int(library.pdt_database_close(at))
+    def _freeing() -> Callable[[c_void_p], int]:
+        return library.pdt_database_close
+
+    def _end_reads(self) -> None:
+        if os.getpid() == self._process:  # what a child of fork has is its parent's
+            super()._end_reads()
 
     def _why_open(self) -> str:
         if os.getpid() != self._process:
             return "a child of fork can't close what its parent opened"
-        for table in list(self._tables.values()):
-            pins = table.pins()
-            if pins:
-                return f"the table {table.name!r} has {pins} pin{'s' if pins > 1 else ''}: close them first"
-        return "a transaction, a snapshot or a stream of the database is open"
+        return "a transaction or a stream of the database is open, or an array over what a snapshot lent"
 
-    def __del__(self) -> None:
-        if self.is_open:
-            warnings.warn(f"an unclosed database: {os.fsdecode(self.folder)!r}", ResourceWarning, source=self)
-        self.end()
-        self.leave()
+    def dropped(self) -> None:
+        try:
+            if "room" in vars(self) and self.is_open:
+                warnings.warn(f"an unclosed database: {os.fsdecode(self.folder)!r}", ResourceWarning, source=self)
+        finally:  # where warnings are errors, too
+            super().dropped()
 
 
 class TableHandle(StoreHandle):
@@ -141,6 +145,7 @@ class TableHandle(StoreHandle):
 
     def __init__(self, database: DatabaseHandle, name: str, room: c_void_p) -> None:
         super().__init__()
+        vars(self)["dropped"] = int  # the database frees it
         self.database = database
         self.name: str = name
         self.room = room
@@ -149,19 +154,26 @@ class TableHandle(StoreHandle):
     def __enter__(self) -> int:
         self.database.__enter__()
         try:
-            with self._lock:
-                if self.room.value is None:
-                    raise Misuse(f"the table {self.name!r} was dropped")
-                self._calls += 1
-                return self.room.value
+            return super().__enter__()
         except BaseException:
             self.database.__exit__()
             raise
 
+    def _entered(self) -> int:
+        at = self.room.value
+        if at is None:
+            with self._lock:  # another thread may try to drop it just now
+                at = self.room.value
+        if at is None:
+            raise Misuse(f"the table {self.name!r} was dropped")
+        return at
+
     def __exit__(self, *_: object) -> None:
-        with self._lock:
-            self._calls -= 1
+        self.count_end()
         self.database.__exit__()
+
+    def owner(self) -> Shared:
+        return self.database
 
     def close(self) -> None:
         raise Misuse(f"the table {self.name!r} is closed with its database, and need not be closed")
@@ -169,32 +181,26 @@ class TableHandle(StoreHandle):
     def end(self) -> None:
         """Does nothing: the database frees it."""
 
-    def free_if_ending(self) -> None:
-        self.database.free_if_ending()
-
     def shaping(self) -> Shaping:
         return self._shaping  # columns never change
 
     def has_numbered(self, number: int) -> bool:
         return bool(number <= self.database.counts().commits)
 
-    def pins(self) -> int:
-        """How many pins are kept. Asked by who closes the database, so that it is no call."""
-        counts = CountsOf(ctypes.sizeof(CountsOf))
-        if self.room.value is not None:
-            check(library.pdt_count(self.room, byref(counts)))
-        return int(counts.pins)
-
-    def dropped_by(self, call: Callable[[], int]) -> int:
-        """Makes the call that drops it, and takes no more calls where C has done it. Misuse under another's call."""
+    def dropped_by(self, call: Callable[..., int], *given: Any) -> int:
+        """Makes C's call that drops it, and takes no more calls where C has done it. Misuse in another call."""
         with self._lock:
-            if self._calls:
-                raise Misuse(f"another thread is in a call of the table {self.name!r}")
-            at, self.room = self.room, c_void_p()  # before the call: who interrupts it must not use it again
-            code = call()
-            if code:
-                self.room = at
-            return code
+            at, told = self.room, [Misuse.code]
+            try:
+                self.room = c_void_p()  # before the call: after an interrupt it must not be used again
+                if self.is_in_call():
+                    raise Misuse(f"another thread is in a call of the table {self.name!r}")
+                told.clear()
+                call_into(told, call, *given)
+                return told[-1]
+            finally:
+                if not told or told[-1] > 0:
+                    self.room = at
 
 
 # ---- works
@@ -206,12 +212,8 @@ class _WorkAddress(Address):
     __slots__ = ("database",)
 
     def __init__(self, database: DatabaseHandle) -> None:
-        super().__init__()
         self.database = database
-
-    def __del__(self) -> None:
-        library.pdt_work_abort(self.room)  # null where the work has committed
-        self.database.free_if_ending()
+        super().__init__(library.pdt_work_abort, database)  # null where the work has committed
 
 
 class _PartAddress(Address):
@@ -220,7 +222,7 @@ class _PartAddress(Address):
     __slots__ = ("table", "work")
 
     def __init__(self, table: TableHandle, work: _WorkAddress) -> None:
-        super().__init__()
+        super().__init__(bool)  # C's work frees it
         self.table = table
         self.work = work
 
@@ -228,10 +230,15 @@ class _PartAddress(Address):
 class PartHandle(TransactionHandle):
     """The address of a work's transaction over a table. One thread may have it, or that of another part, at a time."""
 
-    def __init__(self, address: _PartAddress, lock: threading.Lock) -> None:
-        self._address = address
+    def __init__(self, address: _PartAddress, lock: Any) -> None:
+        self._address: Optional[_PartAddress] = address
+        self.name = address.table.name
         self._lock = lock  # that of the work
         self._lent = []
+
+    def _at(self) -> Optional[int]:
+        address = self._address
+        return None if address is None or address.work.room.value is None else address.room.value
 
     def may_end_alone(self) -> None:
         raise Misuse("a table of a transaction over several ends with that: commit or abort the whole")
@@ -248,29 +255,26 @@ class PartHandle(TransactionHandle):
 class WorkHandle(Single):
     """A work's address, which one thread may have at a time, and with it those of its parts."""
 
-    def __init__(self, database: DatabaseHandle) -> None:
-        """Begins a work over all tables."""
+    def __init__(self, database: DatabaseHandle, *, reads: bool = False) -> None:
+        """Begins a work over all tables. One that only reads is ended by a close."""
         address = _WorkAddress(database)
         with database as at:
             check(library.pdt_work_begin(at, byref(address.room)))
-        self.database = database
+        self.database, self.reads = database, reads
         self._address: Optional[_WorkAddress] = address
-        self._lock = threading.Lock()
+        self._lock = threading.RLock()  # which an interrupt may leave to its own thread, that takes it again
         self._parts: Dict[str, PartHandle] = {}
+        database.note(self)
 
     @property
     def is_open(self) -> bool:
-        return self._address is not None
-
-    def _take_lock(self) -> None:
-        if not self._lock.acquire(blocking=False):
-            raise Misuse("another thread is in a call of the transaction")
+        return self._address is not None and self._address.room.value is not None
 
     def part(self, table: TableHandle) -> PartHandle:
         """The work's transaction over a table. Missing where that was made after it began."""
-        self._take_lock()
+        take(self._lock)
         try:
-            if self._address is None:
+            if self._address is None or self._address.room.value is None:
                 raise Misuse("the transaction is over")
             if table.name not in self._parts:
                 address = _PartAddress(table, self._address)
@@ -286,25 +290,22 @@ class WorkHandle(Single):
 
     def commit(self, number: c_uint64) -> int:
         """Commits, and answers C's code; a number that was told says that the work is over."""
-        self._take_lock()
+        take(self._lock)
         try:
-            if self._address is None:
+            if self._address is None or self._address.room.value is None:
                 raise Misuse("the transaction is over")
             for part in self._parts.values():
                 part.take_back()
-            number.value = NO_NUMBER
-            try:
-                return int(library.pdt_work_commit(self._address.room, byref(number)))
-            finally:  # an interrupt comes here too: C has freed the work if it has told a number
-                if number.value != NO_NUMBER:
-                    self._address.room = c_void_p()
-                    self._let_go()
+            code = self._address.end_by(library.pdt_work_commit, number)
+            if number.value != NO_NUMBER:
+                self._let_go()
+            return code
         finally:
             self._lock.release()
 
     def abort(self) -> None:
         """Ends the work: at once, or once nothing reads what its parts lent."""
-        self._take_lock()
+        take(self._lock)
         try:
             self._let_go()
         finally:

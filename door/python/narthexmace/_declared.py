@@ -41,6 +41,12 @@ def declared_as(format_: str) -> Optional[Declared]:
     return None
 
 
+def unit_of(format_: str) -> Optional[int]:
+    """How many microseconds the unit of a timestamp has; None of another format."""
+    found = _TIMESTAMP.fullmatch(format_)
+    return None if found is None else _UNITS[found[1]]
+
+
 def _wrong(value: object, what: str) -> Shape:
     return Shape(f"{value!r} stands where {what} should")
 

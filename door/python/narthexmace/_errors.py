@@ -241,6 +241,18 @@ class TooLong(Error):
     code = 26
 
 
+class NewerFormat(_OfDatabase):
+    """A later version of the library wrote a file of the database. Nothing is changed: open it by that version."""
+
+    code = 27
+
+
+class ReadOnlyDatabase(Error):
+    """The database was opened for reading alone. A transaction stays open."""
+
+    code = 28
+
+
 _KINDS: Tuple[Type[Error], ...] = (
     NoMemory,
     Conflict,
@@ -268,10 +280,12 @@ _KINDS: Tuple[Type[Error], ...] = (
     Unsure,
     Failed,
     TooLong,
+    NewerFormat,
+    ReadOnlyDatabase,
 )
 _BY_CODE: Dict[int, Type[Error]] = {kind.code: kind for kind in _KINDS}
 _OF_FILES: Dict[int, Type[_OfFiles]] = {kind.code: kind for kind in (FileFailed, Exists, Locked, Unsure, Failed)}
-_OF_DATABASES: Dict[int, Type[_OfDatabase]] = {kind.code: kind for kind in (Rot, Gap, Misfit)}
+_OF_DATABASES: Dict[int, Type[_OfDatabase]] = {kind.code: kind for kind in (Rot, Gap, Misfit, NewerFormat)}
 #: Those of files that have one reason, whatever C was told last.
 _REASONS = {Exists.code: errno.EEXIST, Locked.code: errno.EWOULDBLOCK}
 

@@ -1,17 +1,20 @@
 """The addresses of C's objects. A call gets one for as long as it goes on, and none once the object is let go."""
 from __future__ import annotations
 
-import ctypes
+import sys
 import threading
 import warnings
 import weakref
-from contextlib import contextmanager
 from ctypes import byref, c_uint64, c_void_p
-from typing import Any, Callable, Iterator, List, NoReturn, Optional, Sequence, Tuple
+from functools import partial
+from itertools import chain, starmap
+from operator import attrgetter
+from types import FrameType
+from typing import Any, Callable, Dict, List, NoReturn, Optional, Sequence, Tuple
 
 from ._cells import Shaping, shaping_at
-from ._errors import Lent, Misuse, check, error_of
-from ._library import CountsOf, library
+from ._errors import Conflict, Full, Lent, Misuse, TooOld, check, error_of
+from ._library import NO_NUMBER, library
 
 
 class Single:
@@ -21,6 +24,44 @@ class Single:
 
     def __reduce_ex__(self, protocol: object) -> NoReturn:
         raise TypeError(f"a {type(self).__name__} can't be copied or pickled: it stands for memory of this process")
+
+
+#: What a list has of a call of C's that was begun, before it has its code.
+_BEGUN = -1
+#: The code of a free that isn't tried, since a thread is in a call.
+_IN_CALL = -2
+
+
+def call_into(told: List[int], call: Callable[..., int], *given: Any) -> None:
+    """Makes a call of C's, whose code goes into a list with nothing of Python's in between.
+
+    An interrupt comes before the call, and the list is empty, or after it, and the list ends with its code.
+    """
+    told.extend(chain((_BEGUN,), starmap(call, (given,))))
+
+
+def is_nested() -> bool:
+    """Whether this thread is in a call of this package below the one that asks, as in a stream that Python makes.
+
+    The thread's own stack shows it, whatever an interrupt left locked or counted.
+    """
+    return _is_in_package(_caller_of_package(sys._getframe()))
+
+
+def _caller_of_package(frame: Optional[FrameType]) -> Optional[FrameType]:
+    """The frame that has called into the package, where this one is of it."""
+    while frame is not None and frame.f_globals.get("__package__") == __package__:
+        frame = frame.f_back
+    return frame
+
+
+def _is_in_package(frame: Optional[FrameType]) -> bool:
+    """Whether a frame, or one below it, is of the package."""
+    while frame is not None:
+        if frame.f_globals.get("__package__") == __package__:
+            return True
+        frame = frame.f_back
+    return False
 
 
 #: Addresses that nobody has any more, and that C doesn't free while a stream of Arrow's is open over them, of which
@@ -42,9 +83,9 @@ def free_left() -> None:
 class Shared(Single):
     """An address that several threads may have at once. It is freed when nothing uses it any more.
 
-    ``with handle as at`` is a call on it. C's own locks order the calls; the lock here only counts those that go on, so
-    that nothing is freed in one. It may be taken twice by one thread, since the interpreter may drop a transaction at
-    any point.
+    ``with handle as at`` is a call on it. C's own locks order the calls; those that go on are counted here for each
+    thread, so that nothing is freed in one. An interrupt may leave a count: so a thread counts as in a call only where
+    its stack shows one, too. An interrupt may come between any two lines, and never between C's free and its note.
     """
 
     #: What it is the address of, for people.
@@ -52,36 +93,99 @@ class Shared(Single):
 
     def __init__(self) -> None:
         free_left()
-        #: What an opening fills: whoever interrupts the opening then, it is let go with this.
-        self.room = c_void_p()
-        self._lock = threading.RLock()
-        self._calls = 0
+        #: What the end of a transaction or a pin calls: ``int``, which does nothing, unless this is ending.
+        self.unused: Callable[[], Any] = int
+        self._lock = threading.RLock()  # for the call that frees it
+        self._calls: Dict[int, int] = {}  # of each thread
+        # what is open over it, and some that are over, which ``note`` takes out now and then
+        self._opened: List["weakref.ref[Any]"] = []
+        self._most = 64
         self._ending = False
+        #: What an opening fills: whoever interrupts the opening then, it is let go with this. It is made last.
+        self.room = c_void_p()
 
     def __enter__(self) -> int:
-        with self._lock:
-            if self.room.value is None or self._ending:
-                raise Misuse(f"the {self.kind} is closed")
-            self._calls += 1
-            return self.room.value
+        self.count_call()
+        try:
+            return self._entered()
+        except BaseException:
+            self.count_end()
+            raise
+
+    def _entered(self) -> int:
+        at = self.room.value
+        if at is None:
+            with self._lock:  # another thread may try to free it just now
+                at = self.room.value
+        if at is None or self._ending:
+            raise Misuse(f"the {self.kind} is closed")
+        return at
 
     def __exit__(self, *_: object) -> None:
-        with self._lock:
-            self._calls -= 1
-        self.free_if_ending()
+        self.count_end()
+        if self._ending:
+            self.free_if_ending()
+
+    def count_call(self) -> None:
+        """Counts a call of this thread."""
+        thread = threading.get_ident()
+        self._calls[thread] = self._calls.get(thread, 0) + 1
+
+    def count_end(self) -> None:
+        """Counts it no more."""
+        thread = threading.get_ident()
+        count = self._calls.get(thread, 0) - 1
+        if count > 0:
+            self._calls[thread] = count
+        else:
+            self._calls.pop(thread, None)
+
+    def is_in_call(self) -> bool:
+        """Whether a thread is in a call: one that is counted, and whose stack is in this package."""
+        if not self._calls:
+            return False
+        stacks: Dict[int, Optional[FrameType]] = dict(sys._current_frames())
+        stacks[threading.get_ident()] = _caller_of_package(sys._getframe())
+        return any(_is_in_package(stacks.get(thread)) for thread in list(self._calls))
+
+    def note(self, opened: Any) -> None:
+        """Notes what is open over it: a transaction, a snapshot or a pin. It isn't kept by that."""
+        self._opened.append(weakref.ref(opened))
+        if len(self._opened) > self._most:
+            self._take_out()
+
+    def _take_out(self) -> None:
+        """Takes out of what is noted what is over."""
+        if self._lock.acquire(blocking=False):
+            try:
+                count = len(self._opened)
+                there = [kept for kept in self._opened[:count] if _is_open(kept())]
+                self._most = max(64, 2 * len(there))
+                self._opened[:count] = there  # other threads may have added some behind them
+            finally:
+                self._lock.release()
+
+    def _end_reads(self) -> None:
+        """Ends what only reads, unless something else is open, for which this stays open. Misuse in a call of one."""
+        opened: List[Any] = [it for it in (kept() for kept in list(self._opened)) if _is_open(it)]
+        if all(it.reads for it in opened) and not self.is_in_call():
+            for it in opened:
+                it.abort()
 
     def close(self) -> None:
-        """Frees it. Misuse while something is open over it, or another thread in a call."""
+        """Frees it, and ends what only reads. Misuse while something else is open, or another thread in a call."""
         with self._lock:
-            if self._calls:
-                raise Misuse(f"another thread is in a call of the {self.kind}")
+            self._end_reads()
             code = self._free()
-            if code == Misuse.code:
-                raise Misuse(self._why_open())
+        if code == _IN_CALL:
+            raise Misuse(f"another thread is in a call of the {self.kind}")
+        if code == Misuse.code:
+            raise Misuse(self._why_open())
         check(code)
 
     def end(self) -> None:
         """Takes no more calls, and frees it now, or with the end of the last thing that is open over it."""
+        self.unused = self.free_if_ending
         self._ending = True
         self.free_if_ending()
 
@@ -90,21 +194,30 @@ class Shared(Single):
         if not self._ending:
             return
         with self._lock:
-            code = Misuse.code if self._calls else self._free()
-        if code not in (0, Misuse.code):
+            code = self._free()
+        if code not in (0, _IN_CALL, Misuse.code):
             warnings.warn(f"the {self.kind} was closed, and {error_of(code)}", RuntimeWarning, stacklevel=2)
         free_left()
 
     def _free(self) -> int:
-        """Frees it, and answers C's code: PDT_MISUSE where something is open over it. It stays then."""
-        at, self.room = self.room, c_void_p()  # before the call: who interrupts it must not free it again
-        code = self._freed(at)
-        if code == Misuse.code:
-            self.room = at
-        return code
+        """Frees it, and answers C's code. PDT_MISUSE where something is open over it, _IN_CALL in a call: it stays."""
+        at, told = self.room, [Misuse.code]
+        try:
+            self.room = c_void_p()  # first: no call begins then, and after an interrupt it must not be freed again
+            if self.is_in_call():
+                return _IN_CALL
+            told.clear()
+            call_into(told, self._freeing(), at)
+            return told[-1]
+        finally:
+            if not told or told[-1] == Misuse.code:
+                self.room = at
+            else:
+                self.unused = int
+                vars(self)["dropped"] = int
 
     @staticmethod
-    def _freed(at: c_void_p) -> int:
+    def _freeing() -> Callable[[c_void_p], int]:
         """C's call that frees it; a null pointer is no error."""
         raise NotImplementedError
 
@@ -112,9 +225,14 @@ class Shared(Single):
         """Why C doesn't free it."""
         raise NotImplementedError
 
-    def __del__(self) -> None:
-        self.end()
-        self.leave()
+    def dropped(self) -> None:
+        """Lets go of a handle that is dropped. Once C has freed the object, ``int`` takes the place of this method."""
+        if "room" in vars(self):
+            self.end()
+            self.leave()
+
+    #: No line of Python runs here once C has freed the object: Python loses an interrupt that comes in a ``__del__``.
+    __del__: Any = property(attrgetter("dropped"))
 
     def leave(self) -> None:
         """Leaves what C didn't free to later calls. It has no address then: what the garbage collector drops after it,
@@ -122,7 +240,13 @@ class Shared(Single):
         """
         if self._ending and self.room.value is not None:
             at, self.room = self.room, c_void_p()
-            _left.append((self._freed, at))
+            self.unused = free_left
+            _left.append((self._freeing(), at))
+
+
+def _is_open(opened: Any) -> bool:
+    """Whether what is noted is there, and open."""
+    return opened is not None and bool(opened.is_open)
 
 
 class StoreHandle(Shared):
@@ -133,33 +257,63 @@ class StoreHandle(Shared):
     name: Optional[str] = None
 
     @staticmethod
-    def _freed(at: c_void_p) -> int:
-        return int(library.pdt_close(at))
+    def _freeing() -> Callable[[c_void_p], int]:
+        return library.pdt_close
 
     def _why_open(self) -> str:
-        counts = CountsOf(ctypes.sizeof(CountsOf))
-        check(library.pdt_count(self.room, byref(counts)))
-        if counts.pins:
-            return f"the store has {counts.pins} pin{'s' if counts.pins > 1 else ''}: close them first"
-        return "a transaction, a snapshot or a stream of the store is open"
+        return "a transaction or a stream of the store is open, or an array over what a snapshot lent"
 
     def shaping(self) -> Shaping:
         """Its columns, and how cells go there and come back."""
         with self as at:
             return shaping_at(at)
 
+    def owner(self) -> Shared:
+        """What is freed with the last thing that is open over it."""
+        return self
+
     def has_numbered(self, number: int) -> bool:
         """Whether a number above that of the newest table is that of a commit, which changed another table."""
         return False
 
 
+class Use(Single):
+    """A use of something shared: its end calls ``unused``."""
+
+    __slots__ = ("shared",)
+
+    def __init__(self, shared: Shared) -> None:
+        self.shared = shared
+
+    __del__: Any = property(attrgetter("shared.unused"))
+
+
 class Address(Single):
-    """An address that is let go when nobody keeps this any more; a call of C's fills its room."""
+    """An address that C frees when this is dropped; a call of C's fills its room.
 
-    __slots__ = ("room",)
+    No line of Python runs then: Python loses an interrupt that comes in a ``__del__``.
+    """
 
-    def __init__(self) -> None:
+    __slots__ = ("room", "_free", "_use")
+
+    def __init__(self, free: Callable[[c_void_p], Any], shared: Optional[Shared] = None) -> None:
+        """``free`` takes a null pointer as well. The use of what is shared ends after it."""
         self.room = c_void_p()
+        self._free = partial(free, self.room)
+        self._use = None if shared is None else Use(shared)
+
+    __del__: Any = property(attrgetter("_free"))
+
+    def end_by(self, call: Callable[..., int], number: c_uint64) -> int:
+        """Makes a call of C's that frees the address where it fills in a number. Answers its code."""
+        at = self.room.value
+        number.value = NO_NUMBER
+        try:
+            self.room.value = None  # before the call: after an interrupt it must not be freed again
+            return call(at, byref(number))
+        finally:
+            if number.value == NO_NUMBER:
+                self.room.value = at
 
 
 class _OpenAddress(Address):
@@ -167,17 +321,18 @@ class _OpenAddress(Address):
 
     __slots__ = ("store",)
 
-    def __init__(self, store: StoreHandle) -> None:
-        super().__init__()
+    def __init__(self, store: StoreHandle, shared: Shared) -> None:
         self.store = store
-
-    def __del__(self) -> None:
-        library.pdt_abort(self.room)  # null where the transaction has committed
-        self.store.free_if_ending()
+        self.room = c_void_p()
+        self._free = partial(library.pdt_abort, self.room)  # null where the transaction has committed
+        self._use = Use(shared)
 
 
 class PinHandle(Single):
     """A pin's address, at which several threads may begin at once. It is let go when none of them is in a begin."""
+
+    #: It is ended by a close.
+    reads = True
 
     def __init__(self, store: StoreHandle) -> None:
         """Pins the newest table."""
@@ -187,6 +342,7 @@ class PinHandle(Single):
         self.number = number.value
         self.store = store
         self._pinned: Optional[_PinAddress] = pinned
+        store.owner().note(self)
 
     @property
     def is_open(self) -> bool:
@@ -209,7 +365,7 @@ class PinHandle(Single):
         with self.store:
             return int(library.pdt_arrow(pinned.room, *given))
 
-    def close(self) -> None:
+    def abort(self) -> None:
         """Lets the pin go: at once, or once no other thread begins at it."""
         self._pinned = None
 
@@ -220,12 +376,14 @@ class _PinAddress(Address):
     __slots__ = ("store",)
 
     def __init__(self, store: StoreHandle) -> None:
-        super().__init__()
         self.store = store
+        super().__init__(library.pdt_unpin, store.owner())  # null where the pinning failed
 
-    def __del__(self) -> None:
-        library.pdt_unpin(self.room)  # null where the pinning failed
-        self.store.free_if_ending()
+
+def take(lock: Any) -> None:
+    """Takes the lock of a transaction. Misuse in a call of another thread, or in one of this thread's own."""
+    if (lock._is_owned() and is_nested()) or not lock.acquire(blocking=False):
+        raise Misuse("another thread is in a call of the transaction")
 
 
 class TransactionHandle(Single):
@@ -236,48 +394,45 @@ class TransactionHandle(Single):
     for as long as someone can read it.
     """
 
-    def __init__(self, store: StoreHandle, pin: Optional[PinHandle] = None) -> None:
-        """Begins a transaction over the newest table, or over that of a pin."""
-        address = _OpenAddress(store)
+    def __init__(self, store: StoreHandle, pin: Optional[PinHandle] = None, *, reads: bool = False) -> None:
+        """Begins a transaction over the newest table, or over that of a pin. One that only reads is ended by a close."""
+        shared = store.owner()
+        address = _OpenAddress(store, shared)
+        self.reads = reads
+        #: The name of its table in a database; that of a store alone has none.
+        self.name = store.name
         if pin is not None:
             pin.begin(address.room)
         else:
             with store as at:
                 check(library.pdt_begin(at, byref(address.room)))
         self._address: Optional[Address] = address
-        self._lock = threading.Lock()
+        self._lock = threading.RLock()  # which an interrupt may leave to its own thread, that takes it again
         # the views that were lent, and the memory under each: neither is kept alive by this
         self._lent: List[Tuple["weakref.ref[memoryview]", "weakref.ref[Any]"]] = []
+        shared.note(self)
 
     @property
     def is_open(self) -> bool:
-        return self._address is not None
+        return self._at() is not None
+
+    def _at(self) -> Optional[int]:
+        """Where it is; None once it is over."""
+        address = self._address
+        return None if address is None else address.room.value
 
     def __enter__(self) -> int:
-        self._take_lock()
-        try:
-            if self._address is None or self._address.room.value is None:
-                raise Misuse("the transaction is over")
-            return self._address.room.value
-        except BaseException:
-            self._lock.release()
-            raise
+        lock = self._lock
+        if (lock._is_owned() and is_nested()) or not lock.acquire(False):  # type: ignore[attr-defined]
+            raise Misuse("another thread is in a call of the transaction")
+        at = self._at()
+        if at is None:
+            lock.release()
+            raise Misuse("the transaction is over")
+        return at
 
     def __exit__(self, *_: object) -> None:
         self._lock.release()
-
-    @contextmanager
-    def keeping(self) -> Iterator[Optional[int]]:
-        """A call where the transaction may be over: None then."""
-        self._take_lock()
-        try:
-            yield None if self._address is None else self._address.room.value
-        finally:
-            self._lock.release()
-
-    def _take_lock(self) -> None:
-        if not self._lock.acquire(blocking=False):
-            raise Misuse("another thread is in a call of the transaction")
 
     def arrow(self, *given: Any) -> int:
         """C's call that makes a stream of what the transaction sees."""
@@ -309,15 +464,38 @@ class TransactionHandle(Single):
         self._lent = [(view, memory) for view, memory in self._lent if memory() is not None]
         return not self._lent
 
-    def committed(self) -> None:
-        """Notes that C has freed the transaction. Made within the call that did it."""
-        if self._address is not None:
-            self._address.room = c_void_p()
-        self._address = None
+    def end_by(self, call: Callable[..., int], number: c_uint64) -> int:
+        """Makes a call of C's that ends the transaction where it fills in a number. Made in a call; answers its code."""
+        self.may_end_alone()
+        self.take_back()
+        assert self._address is not None
+        code = self._address.end_by(call, number)
+        if number.value != NO_NUMBER:
+            self._address = None
+        return code
+
+    def decide(self) -> int:
+        """Has C decide a commit, and gives that up. Made in a call; answers C's code, which may say that it is over."""
+        self.may_end_alone()
+        self.take_back()
+        assert self._address is not None
+        room, told = self._address.room, [0]
+        at = room.value
+        try:
+            room.value = None
+            call_into(told, library.pdt_prepare, at, byref(c_uint64()))
+            if not told[-1]:
+                call_into(told, library.pdt_give_up, at)
+        finally:
+            if told[-1] not in (Conflict.code, TooOld.code, Full.code):
+                room.value = at
+        if room.value is None:
+            self._address = None
+        return told[-1]
 
     def abort(self) -> None:
         """Ends the transaction: at once, or once nothing reads what it lent."""
-        self._take_lock()
+        take(self._lock)
         try:
             self._release_lent()
             self._address = None

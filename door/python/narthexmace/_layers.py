@@ -2,12 +2,12 @@
 from __future__ import annotations
 
 import ctypes
-from ctypes import byref, c_void_p
+from ctypes import byref
 from typing import Iterator, NamedTuple, Optional, Sequence
 
 from ._cells import Row, Shaping
 from ._errors import TooSmall, check
-from ._handles import Single
+from ._handles import Address, Single
 from ._library import EntryOf, library
 
 INSERT, DELETE, MODIFY = "insert", "delete", "modify"
@@ -36,12 +36,10 @@ class Layer(Single):
     """The entries of a layer as they stood when C filled its address. A loop over them is for one thread."""
 
     def __init__(self, name: str, shaping: Shaping) -> None:
-        self.room = c_void_p()
+        self._address = Address(library.pdt_layer_close)  # null where there is none
+        self.room = self._address.room
         self._name = name
         self._shaping = shaping
-
-    def __del__(self) -> None:
-        library.pdt_layer_close(self.room)  # null where there is none
 
     def __iter__(self) -> Iterator[Entry]:
         entry, numbers, texts = EntryOf(), self._shaping.numbers(), ctypes.create_string_buffer(1024)

@@ -22,6 +22,7 @@ MAX_ROWS = 2_147_483_647
 FOLD_ENTRIES = 1024
 CHECKPOINT_ENTRIES = 10_000
 JOURNAL_BYTES = 67_108_864
+KEPT_BYTES = 268_435_456
 
 
 class Options(ctypes.Structure):
@@ -117,9 +118,12 @@ class DatabaseOptions(ctypes.Structure):
         ("sync", c_int),
         ("early_reads", c_bool),
         ("no_upkeep", c_bool),
+        ("read_only", c_bool),
         ("fold_entries", c_uint64),
         ("checkpoint_entries", c_uint64),
         ("journal_bytes", c_uint64),
+        ("kept_bytes", c_uint64),
+        ("mode", c_uint32),
     ]
 
 
@@ -151,6 +155,7 @@ class DatabaseCountsOf(ctypes.Structure):
         ("journal_bytes", c_uint64),
         ("journal_files", c_size_t),
         ("tables", c_size_t),
+        ("kept_bytes", c_uint64),
     ]
 
 

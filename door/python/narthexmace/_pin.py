@@ -18,7 +18,7 @@ class Pin(Single):
     ``read``. No begin waits for a commit, a fold or a checkpoint.
 
     What commits, folds and checkpoints have replaced since stays in memory with a pin. With ``with`` it is closed at
-    the end of the block, and one that is dropped is closed, too. A store isn't closed while it has pins.
+    the end of the block, and one that is dropped is closed, too. The close of its store closes it, and ends its snapshots.
     """
 
     __slots__ = ("_handle", "_shaping", "__weakref__")
@@ -39,7 +39,7 @@ class Pin(Single):
 
     def read(self) -> Snapshot:
         """A snapshot of its table, for the thread that asks: ``with pin.read() as table:``. Misuse, NoMemory."""
-        return Snapshot(TransactionHandle(self._handle.store, self._handle), self._shaping)
+        return Snapshot(TransactionHandle(self._handle.store, self._handle, reads=True), self._shaping)
 
     def begin(self) -> Transaction:
         """Begins a transaction over its table. Misuse, NoMemory.
@@ -81,7 +81,7 @@ class Pin(Single):
 
     def close(self) -> None:
         """Lets the table go. What began over it goes on. Closing again is no error."""
-        self._handle.close()
+        self._handle.abort()
 
     def __enter__(self) -> "Pin":
         return self

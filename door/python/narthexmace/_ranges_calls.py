@@ -1,38 +1,36 @@
 """Calls of the owners of ranges: each has an answer, or a reason why there is none, in time."""
 from __future__ import annotations
 
-import time
 import warnings
 from contextlib import suppress
-from typing import Any, Optional, Sequence, Tuple
+from typing import Any, List, Optional, Sequence, Tuple
 
-from distributed import Actor, CancelledError, Client, Future
+from distributed import Actor, CancelledError, Client, Future, wait
 from distributed import TimeoutError as NotYet
 from distributed.comm import CommClosedError
 
 from ._errors import Error, Failed, Unsure
 from ._ranges_errors import Closed, Gone, TimedOut
 from ._ranges_owner import First, Owner, Status, Term
+from ._ranges_turns import Deadline
 
 #: For how many seconds an answer is waited for at a time: in between it is seen whether the worker is there.
 _TURN = 0.05
 #: For how many seconds an answer that has come is waited for, where this process is short of time.
 _TO_TAKE = 1.0
+#: For how many seconds an opening is waited for at a time: in between the scheduler says whether the worker is there.
+_LOOK = 0.25
 
 
-class Deadline:
-    """A moment up to which is waited."""
-
-    def __init__(self, seconds: float) -> None:
-        self._end = time.monotonic() + seconds
-
-    def left(self) -> float:
-        """How many seconds are left: none is 0."""
-        return max(0.0, self._end - time.monotonic())
-
-    def sooner(self, seconds: float) -> "Deadline":
-        """So many seconds from now, or this one."""
-        return Deadline(min(seconds, self.left()))
+def workers_of(client: Client, deadline: Deadline) -> List[str]:
+    """The addresses of the workers that the scheduler has. TimedOut; Gone, where the scheduler is."""
+    try:
+        told = client.sync(client.scheduler.identity, callback_timeout=deadline.left())
+    except (NotYet, TimeoutError):
+        raise TimedOut("the scheduler did not answer in time") from None
+    except OSError as why:
+        raise Gone("the scheduler is gone") from why
+    return list(told["workers"])
 
 
 class Asked:
@@ -76,8 +74,10 @@ class Asked:
 class Range:
     """A range as the coordinator has it: the worker that owns it, and whether that is still known to be there."""
 
-    def __init__(self, client: Client, folder: str, place: int) -> None:
+    def __init__(self, client: Client, folder: str, place: int, first: Optional[First] = None) -> None:
         self._client, self._folder, self.place = client, folder, place
+        #: What it is made of, until all ranges of its table are made.
+        self.first = first
         #: The worker's address, Dask's task and actor, and the key by which tasks of the worker find it.
         self.address, self.key = "", ""
         self.task: Optional[Future] = None
@@ -95,15 +95,20 @@ class Range:
         """Makes a call of its owner."""
         return Asked(self, method, given)
 
-    def opens(self, address: str, term: Term, seconds: float, first: Optional[First] = None) -> None:
+    def opens(self, address: str, term: Term, seconds: float) -> None:
         """Has a worker open the range, which waits so many seconds for a dying owner's lock."""
         with warnings.catch_warnings():  # rows that go once, into a table that is made, need no other way
             warnings.filterwarnings("ignore", "Large object of size")
             task = self._client.submit(
-                Owner, f"{self._folder}/range-{self.place}", self.place, term, seconds, first,
+                Owner, f"{self._folder}/range-{self.place}", self.place, term, seconds, self.first,
                 actor=True, workers=[address], allow_other_workers=False, pure=False,
             )  # fmt: skip
         self._opening = address, task
+
+    @property
+    def home(self) -> str:
+        """The address of the worker that opens the range, or else of the one that has it, or had it last."""
+        return self.address if self._opening is None else self._opening[0]
 
     def is_opening(self, addresses: Sequence[str]) -> bool:
         """Whether a worker that is there still opens it, or has."""
@@ -112,23 +117,47 @@ class Range:
         address, task = self._opening
         return address in addresses and task.status in ("pending", "finished")
 
-    def opened(self, term: Term, deadline: Deadline) -> Status:
-        """Waits until a worker has opened the range, and has it serve a term. TimedOut, Gone, those of the opening."""
+    def opened(self, term: Term, deadline: Deadline) -> Optional[Status]:
+        """Waits until a worker has opened the range, and has it serve a term. None, where that worker dies meanwhile.
+
+        TimedOut; Gone, where it can't be opened there; those of ``Owner``.
+        """
         assert self._opening is not None
         address, task = self._opening
-        try:
-            task.result(timeout=deadline.left())
-        except (NotYet, TimeoutError):
-            raise TimedOut(f"{self} was not opened in time, at {address}") from None
-        except (Exception, CancelledError) as why:
+        if not self._is_made(address, task, deadline):
             self._opening = None
-            raise why if isinstance(why, Error) else Gone(f"{self} could not be opened at {address}") from why
+            return None
         self._opening, self.address, self.task = None, address, task
         with self._client.as_current():  # what the task answers would go by Dask's default client
             self.owner = Actor(Owner, address, task.key)
-        status = self.serve(term, deadline)
-        self.key = self.ask("here").answer(deadline)
+        try:
+            status = self.serve(term, deadline)
+            self.key = self.ask("here").answer(deadline)
+        except Gone:
+            if address in workers_of(self._client, deadline):
+                raise
+            return None
         return status
+
+    def _is_made(self, address: str, task: Future, deadline: Deadline) -> bool:
+        """Waits until a worker has made the owner. False where the worker is gone, which Dask's task would wait for."""
+        while task.status == "pending":
+            with suppress(NotYet, TimeoutError), self._client.as_current():
+                wait([task], timeout=min(_LOOK, deadline.left()))
+                break
+            if address not in workers_of(self._client, deadline):
+                return False
+            if not deadline.left():
+                raise TimedOut(f"{self} was not opened in time, at {address}")
+        if task.status == "finished":
+            return True
+        self._opening = None
+        why = task.exception(timeout=max(deadline.left(), _TO_TAKE)) if task.status == "error" else None
+        if isinstance(why, Error):
+            raise why
+        if why is None or address not in workers_of(self._client, deadline):
+            return False
+        raise Gone(f"{self} could not be opened at {address}: {why!r}") from why
 
     def serve(self, term: Term, deadline: Deadline) -> Status:
         """Has the owner serve a term: it refuses earlier words of ours from then on, so that its status holds."""

@@ -2,25 +2,27 @@
 from __future__ import annotations
 
 import re
-import threading
+import time
 import uuid
-from contextlib import contextmanager, suppress
-from typing import Any, Dict, Iterator, List, NamedTuple, Optional, Sequence, Set, Tuple
+from contextlib import suppress
+from typing import Any, Dict, List, NamedTuple, Optional, Sequence, Set, Tuple
 
 from distributed import Client
-from distributed import TimeoutError as NotYet
 
 from . import _ranges_steps as steps
 from ._errors import Error, Misfit, Misuse
-from ._ranges_calls import Deadline, Range
+from ._ranges_calls import Range, workers_of
 from ._ranges_errors import COMMITTED, IN_DOUBT, NOT_COMMITTED, Gone, LogFailed, RangesError, TimedOut
 from ._ranges_log import Decision, Log
 from ._ranges_owner import First, Status, Term
+from ._ranges_turns import Deadline, Turns
 
 #: A version of each range, which together are the table at one moment.
 Vector = Tuple[int, ...]
 #: How long a range that was slow is asked whether it is there, before another worker opens it.
 _A_SIGN = 1.0
+#: After how many seconds the scheduler is asked again, where it has no worker.
+_NEXT_LOOK = 0.25
 
 
 class _Doubt(NamedTuple):
@@ -35,14 +37,20 @@ class Coordinator:
     """What orders the commits. Any threads of its process may use it: one commit goes on at a time."""
 
     def __init__(
-        self, client: Client, folder: str, seconds: float, opening: float, count: int, firsts: Sequence[First] = ()
+        self,
+        client: Client,
+        folder: str,
+        seconds: float,
+        opening: float,
+        count: int,
+        firsts: Sequence[Optional[First]] = (),
     ) -> None:
         """Opens the log, and each range by a worker; what is decided and was not installed is. Locked, Gap, Rot.
 
         TimedOut, Gone, and what the opening of a range raises.
         """
         self.seconds, self._opening, self._client = seconds, opening, client
-        self._lock = threading.Lock()
+        self._turns = Turns()
         self._log = Log(folder)
         self._words = 0
         self._doubt: Optional[_Doubt] = None
@@ -52,28 +60,47 @@ class Coordinator:
         self._owing: Set[int] = set()
         self._installed: Dict[int, int] = {}
         self._vector: Vector = ()
-        self.ranges = [Range(client, folder, place) for place in range(count)]
+        self.ranges = [Range(client, folder, place, first) for place, first in enumerate(firsts or [None] * count)]
         try:
-            self._open_all(Deadline(opening), firsts)
+            self._open_all(Deadline(opening))
         except BaseException:
             self.close()
             raise
 
-    def _open_all(self, deadline: Deadline, firsts: Sequence[First]) -> None:
+    def _open_all(self, deadline: Deadline) -> None:
         addresses = self._addresses(deadline)
         for it in self.ranges:
-            first = firsts[it.place] if firsts else None
-            it.opens(addresses[it.place % len(addresses)], self._term(), deadline.left(), first)
-        there = [it.opened(self._term(), deadline) for it in self.ranges]
+            it.opens(addresses[it.place % len(addresses)], self._term(), deadline.left())
+        there = [self._opened(it, deadline) for it in self.ranges]
         versions = [status.version for status in there]
-        for number, name, parts in self._log.decisions:
-            for place, effects in parts.items():
-                it = self.ranges[place]
-                versions[place] = it.ask("install", it.term, number, name, effects).answer(deadline)
+        for decision in self._log.decisions:
+            for place in decision.parts:
+                versions[place] = self._done_in(self.ranges[place], decision, deadline)
         self._next = max([self._log.next, *(status.last + 1 for status in there)])
         self._vector = tuple(versions)
         self._log.next = self._next
         self._log.rewrite([])  # each range has all of it, and synced it
+        for it in self.ranges:
+            it.first = None
+
+    def _opened(self, it: Range, deadline: Deadline) -> Status:
+        """Has a worker open a range, and another one where that worker dies meanwhile. TimedOut, those of ``Owner``."""
+        while True:
+            addresses = self._addresses(deadline)
+            if not it.is_opening(addresses):
+                it.opens(self._free(addresses, it.address), self._term(), max(deadline.left(), self.seconds))
+            status = it.opened(self._term(), deadline)
+            if status is not None:
+                return status
+
+    def _done_in(self, it: Range, decision: Decision, deadline: Deadline) -> int:
+        """Has a range do what was decided before this opening, and answers its version. TimedOut."""
+        number, name, parts = decision
+        while True:
+            try:
+                return int(it.ask("install", it.term, number, name, parts[it.place]).answer(deadline))
+            except Gone:  # the worker that opened it has died
+                self._opened(it, deadline)
 
     @property
     def vector(self) -> Vector:
@@ -88,32 +115,29 @@ class Coordinator:
         self._words += 1
         return self._log.epoch, self._words
 
-    @contextmanager
-    def _turn(self, deadline: Deadline) -> Iterator[None]:
-        """The right to commit. TimedOut."""
-        if not self._lock.acquire(timeout=deadline.left()):
-            raise TimedOut("another commit goes on, and did not end in time")
-        try:
-            yield
-        finally:
-            self._lock.release()
-
     # ---- commits
 
     def commit(self, name: str, places: Sequence[int]) -> Vector:
-        """Commits what a transaction has written into some ranges, and answers the vector that has it."""
+        """Commits what a transaction has written into some ranges, and answers the vector that has it.
+
+        An interrupt ends the wait for it alone: ``outcome`` says later whether it is committed.
+        """
+        self.check_open()
         deadline = Deadline(self.seconds)
         try:
-            with self._turn(deadline):
-                if self._log.failed:  # what is in doubt may be decided: nothing may come between it and its ranges
-                    raise LogFailed("the log of decisions has failed: open the ranges again")
-                self._settle(places, deadline)
-                if len(places) == 1:
-                    return self._commit_alone(name, places[0])
-                return self._commit_over(name, places)
+            vector: Vector = self._turns.do(lambda: self._commit(name, places, deadline), deadline)
         except BaseException:
             self.end(name, places)
             raise
+        return vector
+
+    def _commit(self, name: str, places: Sequence[int], deadline: Deadline) -> Vector:
+        if self._log.failed:  # what is in doubt may be decided: nothing may come between it and its ranges
+            raise LogFailed("the log of decisions has failed: open the ranges again")
+        self._settle(places, deadline)
+        if len(places) == 1:
+            return self._commit_alone(name, places[0])
+        return self._commit_over(name, places)
 
     def _number(self) -> int:
         self._next += 1
@@ -141,8 +165,8 @@ class Coordinator:
         self._outcomes[doubt.name] = IN_DOUBT
         try:
             self._reach(doubt.place, Deadline(self.seconds))
-        except (Error, OSError):
-            raise TimedOut(f"range {doubt.place} did not answer its commit, and isn't reached", IN_DOUBT) from why
+        except (Error, OSError) as lost:
+            raise TimedOut(f"{why}, over its commit, and isn't reached: {lost}", IN_DOUBT) from lost
         if self._outcomes[doubt.name] == COMMITTED:
             return self._vector
         raise Gone(f"range {doubt.place} was lost before it committed: begin again") from why
@@ -223,42 +247,47 @@ class Coordinator:
     def heal(self, places: Sequence[int] = ()) -> None:
         """Has another worker open those of some ranges whose owner is gone, and does what is owed. TimedOut, Gone."""
         deadline = Deadline(self.seconds)
-        with self._turn(deadline):
-            self._settle(places, deadline)
+        self._turns.do(lambda: self._settle(places, deadline), deadline)
 
     def _settle(self, places: Sequence[int], deadline: Deadline) -> None:
         """Reaches some ranges, and those that owe something or are in doubt. Nothing is owed, or in doubt, then."""
         doubted = set() if self._doubt is None else {self._doubt.place}
-        for place in sorted({*places, *self._owing, *doubted}):
-            if self.ranges[place].suspect or place in doubted:
-                self._reach(place, deadline)
+        lost = [it for it in sorted({*places, *self._owing, *doubted}) if self.ranges[it].suspect or it in doubted]
+        self._open_elsewhere(lost, deadline)
+        for place in lost:
+            self._reach(place, deadline)
         if self._decided is not None:
             missed = self._install(deadline)
             if missed is not None:
                 raise TimedOut("an earlier commit is not installed everywhere yet") from missed
 
+    def _open_elsewhere(self, places: Sequence[int], deadline: Deadline) -> None:
+        """Has workers begin to open those of some ranges whose own worker is gone, all at once."""
+        if places:
+            addresses = self._addresses(deadline)
+            for it in (self.ranges[place] for place in places):
+                if it.address not in addresses and not it.is_opening(addresses):
+                    it.opens(self._free(addresses, it.address), self._term(), self.seconds)
+
     def _reach(self, place: int, deadline: Deadline) -> None:
         """Finds the owner of a range, or has another worker open it. What was in doubt there is known then."""
-        it, term = self.ranges[place], self._term()
-        status = self._sign_of(it, term, deadline)
+        it = self.ranges[place]
+        status = self._sign_of(it, deadline)
         if status is None:
-            addresses = self._addresses(deadline)
-            if not it.is_opening(addresses):
-                it.opens(self._free(addresses, it.address), term, self.seconds)
             try:
-                status = it.opened(term, deadline)
+                status = self._opened(it, deadline)
             except RangesError:
                 raise
             except OSError as why:  # as Locked, which an owner that was stopped leaves
                 raise TimedOut(f"{it} can't be opened: {why}") from why
         self._take(place, status)
 
-    def _sign_of(self, it: Range, term: Term, deadline: Deadline) -> Optional[Status]:
+    def _sign_of(self, it: Range, deadline: Deadline) -> Optional[Status]:
         """How far a range is whose owner is there after all."""
-        if it.owner is None:
+        if it.owner is None or it.address not in self._addresses(deadline):
             return None
         try:
-            return it.serve(term, deadline.sooner(min(_A_SIGN, deadline.left() / 2)))
+            return it.serve(self._term(), deadline.sooner(min(_A_SIGN, deadline.left() / 2)))
         except Error:
             return None
 
@@ -279,42 +308,44 @@ class Coordinator:
         return self._installed.get(place, self._vector[place]) if self._decided is not None else self._vector[place]
 
     def _addresses(self, deadline: Deadline) -> List[str]:
-        """The addresses of the workers that are there."""
-        try:
-            told = self._client.sync(self._client.scheduler.identity, callback_timeout=deadline.left())
-        except (NotYet, TimeoutError):
-            raise TimedOut("the scheduler did not answer in time") from None
-        except OSError as why:
-            raise Gone("the scheduler is gone") from why
-        if not told["workers"]:
-            raise TimedOut("there is no worker")
-        return list(told["workers"])
+        """The addresses of the workers that are there, one or more. TimedOut, Gone."""
+        while True:
+            told = workers_of(self._client, deadline)
+            if told:
+                return told
+            if not deadline.left():
+                raise TimedOut("there is no worker")
+            time.sleep(min(_NEXT_LOOK, deadline.left()))
 
     def _free(self, addresses: Sequence[str], last: str) -> str:
         """The worker that owns the fewest ranges; the last owner only where there is no other."""
-        owned = [it.address for it in self.ranges]
+        owned = [it.home for it in self.ranges]
         return min(addresses, key=lambda address: (address == last, owned.count(address)))
 
     def outcome(self, name: str) -> str:
-        """What is known of a transaction by its name. Misuse, where it is the name of none."""
+        """What is known of a transaction by its name. Misuse, where it is the name of none, or once it is closed."""
         if not re.fullmatch("[0-9]+-[0-9a-f]{32}", name):
             raise Misuse(f"{name!r} is no name of a transaction")
-        deadline = Deadline(self.seconds)
         known = self._outcomes.get(name, IN_DOUBT)
         if known != IN_DOUBT:
             return known
+        self.check_open()
+        deadline = Deadline(self.seconds)
         try:
-            with self._turn(deadline):
-                if self._decided is not None and self._decided.name == name:
-                    return COMMITTED
-                if self._log.failed:
-                    return IN_DOUBT
-                self._settle(range(len(self.ranges)), deadline)
-                asked = [it.ask("has", name) for it in self.ranges]
-                told = [it.answer(deadline) for it in asked]
-                return COMMITTED if True in told else IN_DOUBT if None in told else NOT_COMMITTED
+            return str(self._turns.do(lambda: self._outcome(name, deadline), deadline))
         except (RangesError, OSError):
             return self._outcomes.get(name, IN_DOUBT)
+
+    def _outcome(self, name: str, deadline: Deadline) -> str:
+        """What the log or the ranges say of a transaction."""
+        if self._decided is not None and self._decided.name == name:
+            return COMMITTED
+        if self._log.failed:
+            return IN_DOUBT
+        self._settle(range(len(self.ranges)), deadline)
+        asked = [it.ask("has", name) for it in self.ranges]
+        told = [it.answer(deadline) for it in asked]
+        return COMMITTED if True in told else IN_DOUBT if None in told else NOT_COMMITTED
 
     # ---- the end
 
@@ -324,6 +355,7 @@ class Coordinator:
         for it in self.ranges:
             it.close(deadline)
         self._log.close()
+        self._turns.end()
 
     def check_open(self) -> None:
         """Misuse once it is closed."""

@@ -1,6 +1,7 @@
 """A table in ranges as a dataframe of Dask's."""
 from __future__ import annotations
 
+from contextlib import suppress
 from typing import TYPE_CHECKING, Any, Dict, Optional, Sequence, Tuple
 
 import dask
@@ -9,13 +10,14 @@ import pandas
 from distributed import Actor, get_client
 from distributed import TimeoutError as NotYet
 
-from ._cells import BOOL, INT, LEAST, MOST, TEXT
-from ._declared import declared_as
+from ._cells import INT, LEAST, MOST, TEXT
 from ._errors import Misuse, Shape
-from ._ranges_calls import Range
-from ._ranges_errors import Gone
+from ._frames import dtype_of
+from ._ranges_calls import Range, workers_of
+from ._ranges_errors import Gone, TimedOut
 from ._ranges_layout import Layout
 from ._ranges_owner import Owner, owner_here
+from ._ranges_turns import Deadline
 from ._snapshot import Snapshot
 
 if TYPE_CHECKING:
@@ -23,7 +25,9 @@ if TYPE_CHECKING:
 
 #: For how many seconds a worker that doesn't own a range waits for the rows of one that does.
 _SECONDS = 60.0
-_TYPES = {INT: "int64", BOOL: "bool", TEXT: "object"}
+#: For how many seconds at a time: in between the scheduler says whether that worker is there.
+_LOOK = 0.5
+_GONE = "the worker that had the range is gone, and the version with it: ask for a frame again"
 #: The least and the greatest cell of a type that may be an index: of texts, those of up to 4,096 bytes.
 _ENDS = {INT: (LEAST, MOST), TEXT: ("", "\U0010ffff" * 1024)}
 
@@ -32,7 +36,7 @@ def frame_of(
     ranges: Sequence[Range], layout: Layout, vector: Sequence[int], names: Optional[Sequence[str]]
 ) -> "DataFrame":
     """A dataframe with a part for each range at its version, which the range's owner reads when it is computed."""
-    types = {it.name: _type_of(it.type, format_) for it, format_ in zip(layout.columns, layout.formats)}
+    types = {it.name: dtype_of(it.type, format_) for it, format_ in zip(layout.columns, layout.formats)}
     for name in names or ():
         if name not in types:
             raise Shape(f"there is no column {name!r}")
@@ -62,32 +66,20 @@ def _part(
     if owner is not None:
         return owner.read(version, _rows_of, (types, index))
     try:
-        get_client()
+        client = get_client()
     except ValueError:
         raise Misuse("a frame is computed by its cluster: compute(scheduler=client), where it isn't Dask's default")
+    answer = Actor(Owner, address, actor).map(version, _rows_of, (types, index))
+    deadline = Deadline(_SECONDS)
     try:
-        return Actor(Owner, address, actor).map(version, _rows_of, (types, index)).result(timeout=_SECONDS)
-    except (OSError, ValueError, KeyError, NotYet) as why:
-        raise Gone("the worker that had the range is gone, and the version with it: ask for a frame again") from why
-
-
-def _type_of(type_: str, format_: Optional[str]) -> str:
-    """The type of a column in each part, whatever values that has: where nothing else has all of them, object."""
-    if format_ is None:
-        return _TYPES[type_]
-    kind = format_[1:] if format_.startswith("?") else format_
-    if kind == "g":
-        return "float64"
-    if kind.startswith("ts") and declared_as(kind) is not None:
-        return "datetime64[ns]" if kind.endswith(":") else "datetime64[ns, UTC]"
-    return "object" if declared_as(format_) is not None else "int64"
+        while deadline.left() and address in workers_of(client, deadline):  # else Dask tries for as long as it may
+            with suppress(NotYet, TimeoutError):
+                return answer.result(timeout=_LOOK)
+    except (OSError, ValueError, KeyError, TimedOut) as why:
+        raise Gone(_GONE) from why
+    raise Gone(_GONE)
 
 
 def _rows_of(table: Snapshot, types: Dict[str, str], index: Optional[str]) -> pandas.DataFrame:
-    declared = [name for name in types if table._shaping.declared[table._shaping.column(name)] is not None]
-    plain = [name for name in ([*types] if index is None else [index, *types]) if name not in declared]
-    rows = table.to_pandas(plain) if plain else pandas.DataFrame()
-    batch = next(table.scan(declared, batch=max(len(table), 1)), None) if declared else None
-    for name in declared:
-        rows[name] = pandas.Series([] if batch is None else batch._values_of(name), dtype=types[name])
-    return rows[[*types]] if index is None else rows.set_index(index)[[*types]]
+    rows = table.to_pandas([*types] if index is None else [index, *types])
+    return rows if index is None else rows.set_index(index)

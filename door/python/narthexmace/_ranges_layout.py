@@ -88,7 +88,11 @@ _CELLS: Dict[str, Callable[[Any], Cell]] = {INT: number_of, TEXT: lambda text: b
 
 
 def _cell(value: Any, column: Column, kind: Optional[Declared]) -> Any:
-    return _CELLS[column.type](value) if kind is None else kind.value(kind.number(value))
+    """A cell as it comes back. Shape, which names the column."""
+    try:
+        return _CELLS[column.type](value) if kind is None else kind.value(kind.number(value))
+    except Shape as fault:
+        raise Shape(f"column {column.name!r}: {fault}") from None
 
 
 def layout_at(path: str) -> Layout:

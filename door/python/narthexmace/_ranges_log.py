@@ -111,7 +111,7 @@ class Log:
         if self.failed:
             raise LogFailed("the log of decisions has failed: open the ranges again")
         line, size = line_of(decision), os.fstat(self._file).st_size
-        self.failed = True  # until it is known what the device has: an interrupt leaves it so
+        self.failed = True  # until it is known what the device has
         try:
             written = os.write(self._file, line)
             while written < len(line):

@@ -71,9 +71,12 @@ class Owner:
         self._key = uuid.uuid4().hex
         _HERE[self._key] = self
         if first is not None:
+            for left in list(self._db):  # by a worker that died while it made them
+                self._db.drop(left)
             rows = self._db.create(ROWS, first.columns, key=first.key, types=first.types, **first.options)
             for column, format_ in first.formats.items():  # there is no table in ranges before all of this is done
                 rows.declare(column, format_)
+            steps.reached("made", place)
             self._db.create(INSTALLED, "number:int:key,name:text\n")
         self._rows = self._db[ROWS]
         self._key_columns = sum(column.key for column in self._rows.columns)

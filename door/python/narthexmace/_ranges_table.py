@@ -13,7 +13,7 @@ from ._cells import Column, Key, Row
 from ._errors import Error, Exists, Path, Shape
 from ._handles import Single
 from ._library import MAX_RECENT, MAX_ROWS
-from ._ranges_calls import Asked, Deadline
+from ._ranges_calls import Asked
 from ._ranges_coordinator import Coordinator, Vector
 from ._ranges_errors import Gone
 from ._ranges_frame import frame_of
@@ -21,6 +21,7 @@ from ._ranges_layout import Layout, layout_at
 from ._ranges_log import Log, sync_folder
 from ._ranges_owner import First, rows_between
 from ._ranges_transaction import RangesTransaction
+from ._ranges_turns import Deadline
 from ._store import open as open_store
 from ._tables import KeyNames, Table
 
@@ -170,11 +171,12 @@ class Ranges(Single):
         """The table as a dataframe of Dask's, with a part for each range, read by its owner when it is computed.
 
         All parts are of the newest vector, or of another one. That has to be there when it is computed: a pin keeps it.
-        A key of one int or text that isn't declared is the index, with the bounds as divisions. Columns that are
-        declared have the types of floats and datetimes, or object. Gone, when it is computed.
+        A key of one int or text that isn't declared is the index, with the bounds as divisions. The types
+        of the columns are those of ``Snapshot.to_pandas``. Each owner gives a sign first, and a range whose
+        worker has died is opened again. TimedOut, Gone; Gone also when it is computed, where a worker dies meanwhile.
         """
+        self._all("here", {place: () for place in range(len(self.bounds) + 1)})  # a sign of each owner
         vector = self._vector_at(at)
-        self._heal(range(len(vector)))
         return frame_of(self._coordinator.ranges, self._layout, vector, columns)
 
     def outcome(self, name: str) -> str:
@@ -234,8 +236,15 @@ class Ranges(Single):
     def _once(self, method: str, given: Mapping[int, Tuple[Any, ...]]) -> List[Any]:
         self._heal(list(given))
         asked = [self._coordinator.ranges[place].ask(method, *each) for place, each in given.items()]
-        deadline = self._deadline()
-        return [it.answer(deadline) for it in asked]
+        deadline, told, gone = self._deadline(), [], None
+        for it in asked:
+            try:
+                told.append(it.answer(deadline))
+            except Gone as why:  # the others are taken too, so that each range that is lost is known
+                gone = gone or why
+        if gone is not None:
+            raise gone
+        return told
 
 
 class RangesPin(Single):

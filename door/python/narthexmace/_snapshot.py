@@ -10,8 +10,9 @@ from typing import NoReturn, TypeVar, Union, overload
 
 from ._arrow import ArrowScan, Asked
 from ._batches import Batch, Pieces
-from ._cells import BOOL, INT, TEXT, Key, Row, Shaping
+from ._cells import INT, Key, Row, Shaping
 from ._errors import Misuse, Missing, ReadOnly, Shape, TooSmall, check
+from ._frames import series_of
 from ._handles import Single, TransactionHandle
 from ._library import library
 from ._reads import aligned, column_of, pieces_of, runs_of
@@ -192,13 +193,16 @@ class Snapshot(Single):
 
     def _batches(self, columns: Mapping[str, int], start: int, stop: int, batch: int, writes: int) -> Iterator[Batch]:
         for first in range(start, stop, batch):
-            count = min(batch, stop - first)
-            with self._handle as at:
-                if self._writes != writes:
-                    raise Misuse("the transaction has written since the scan began")
-                types = self._shaping.types
-                cells = {it: column_of(at, types[place], place, first, count) for it, place in columns.items()}
-            yield Batch(first, count, cells, {it: self._shaping.declared[place] for it, place in columns.items()})
+            yield self._batch(columns, first, min(batch, stop - first), writes)
+
+    def _batch(self, columns: Mapping[str, int], first: int, count: int, writes: int) -> Batch:
+        """``count`` rows from a position on. Misuse, where the transaction has written since ``writes``."""
+        with self._handle as at:
+            if self._writes != writes:
+                raise Misuse("the transaction has written since the scan began")
+            types = self._shaping.types
+            cells = {it: column_of(at, types[place], place, first, count) for it, place in columns.items()}
+        return Batch(first, count, cells, {it: self._shaping.declared[place] for it, place in columns.items()})
 
     @overload
     def pieces(self, column: str, start: int = 0, stop: Optional[int] = None) -> Pieces: ...
@@ -240,24 +244,22 @@ class Snapshot(Single):
     def to_pandas(self, columns: Optional[Sequence[str]] = None) -> "DataFrame":
         """The table as a DataFrame, with these columns, or all. ImportError where pandas isn't there.
 
-        Ints are int64, bools bool, and texts Python's own, of the type object. A column that is declared has the values
-        that its rows have, of the type that pandas gives them.
+        The type of a column is that of its format, whatever values there are. Ints are int64, bools bool, and texts
+        Python's own, of the type object. Of columns that are declared, doubles ("g") are float64, and timestamps
+        datetime64[ns], of UTC where they have a time zone: None is NaN or NaT. Other numbers are int64, and Int64 with
+        "?" before their format. Dates and decimals are values of Python's, of the type object.
+
+        Shape, where a timestamp is none that datetime64[ns] has: ``scan`` hands it out.
         """
-        import numpy
         import pandas
 
-        names = self._shaping.names if columns is None else tuple(columns)
-        whole = next(self.scan(names, batch=max(len(self), 1)), None)
-        series = {}
-        for name in names:
-            place = self._shaping.column(name)
-            if self._shaping.declared[place] is not None:
-                values = [] if whole is None else whole._values_of(name)
-                series[name] = pandas.Series(values, dtype=None if values else "object")
-                continue
-            type_ = _IN_FRAMES[self._shaping.types[place]]
-            series[name] = pandas.Series([] if whole is None else numpy.asarray(whole[name]), dtype=type_)
-        return pandas.DataFrame(series)
+        shaping = self._shaping
+        names = shaping.names if columns is None else tuple(columns)
+        places = [shaping.column(name) for name in names]
+        rows = len(self)
+        whole = self._batch(dict(zip(names, places)), 0, rows, self._writes) if rows else None
+        given = ((name, shaping.types[place], shaping.formats[place]) for name, place in zip(names, places))
+        return pandas.DataFrame({name: series_of(whole, name, type_, format_) for name, type_, format_ in given})
 
     def arrow(
         self,
@@ -291,7 +293,3 @@ class Snapshot(Single):
     def __repr__(self) -> str:
         names = ", ".join(self._shaping.names)
         return f"<{type(self).__name__} of {names}, {'open' if self.is_open else 'over'}>"
-
-
-#: The types of pandas' columns.
-_IN_FRAMES = {INT: "int64", BOOL: "bool", TEXT: "object"}

@@ -165,7 +165,7 @@ class Store(Single):
         It takes no number of a commit, so that no open transaction grows older by it. It is for one thread at a time:
         ``pin`` is for threads that read one table side by side. It waits for no commit, no fold and no checkpoint.
         """
-        return Snapshot(TransactionHandle(self._handle), self._shaping)
+        return Snapshot(TransactionHandle(self._handle, reads=True), self._shaping)
 
     def begin(self) -> Transaction:
         """Begins a transaction over the newest table. It waits for no commit, no fold and no checkpoint. NoMemory."""
@@ -190,7 +190,7 @@ class Store(Single):
     ) -> ArrowScan:
         """The newest table's rows for whatever reads Arrow, as ``Pin.arrow``: the scan has a pin of its own.
 
-        Each stream of the scan reads this version. The store isn't closed while the scan is kept.
+        Each stream of the scan reads this version. The store isn't closed while one is open, and ends the scan.
         """
         pin = self.pin()
         asked = Asked(start, stop, keys)
@@ -345,7 +345,11 @@ class Store(Single):
     def close(self) -> None:
         """Closes the store: what no checkpoint has written is gone. Closing again is no error.
 
-        Misuse while a transaction or a snapshot is open, a pin kept, or another thread in a call: it stays open then.
+        Snapshots, pins and scans of Arrow's end with it, and raise Misuse then: in a notebook the last result or the last
+        traceback keeps them. Memory that arrays read stays.
+
+        Misuse while a transaction or a stream of Arrow's is open, an array is over memory that ``pieces`` lent, or another
+        thread is in a call: it stays open then.
         Misuse also of a table of a database, which ``Database.close`` closes.
         """
         self._handle.close()

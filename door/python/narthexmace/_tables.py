@@ -3,10 +3,10 @@ from __future__ import annotations
 
 import os
 from pathlib import Path
-from typing import TYPE_CHECKING, Any, Callable, Dict, Iterable, List, Mapping, NamedTuple, Optional, Protocol
-from typing import Sequence, Union
+from typing import TYPE_CHECKING, AbstractSet, Any, Callable, Dict, Iterable, List, Mapping, NamedTuple, Optional
+from typing import Protocol, Sequence, Union
 
-from ._cells import BOOL, INT, TEXT, Column, Shaping, bytes_of, is_time, is_truth, number_of, truth_of
+from ._cells import BOOL, DECLARED, INT, TEXT, Column, Shaping, bytes_of, is_time, is_truth, number_of, truth_of
 from ._declared import Declared, declared_as
 from ._errors import BadTable, Shape
 
@@ -62,7 +62,20 @@ def columns_of(table: object) -> Optional[Dict[str, Any]]:
     if len(set(names)) < len(names):
         raise Shape("two columns have one name")
     columns = {name: table[name] for name in names}
+    for name, cells in columns.items():
+        _check_listed(name, cells)
     return {name: cells.to_numpy() if hasattr(cells, "to_numpy") else cells for name, cells in columns.items()}
+
+
+def _check_listed(name: str, cells: object) -> None:
+    """Shape, of what has no cells one after the other, or has some of them behind a mask."""
+    if isinstance(cells, (str, bytes, bytearray, AbstractSet, Mapping)):
+        raise Shape(f"column {name!r} is a {type(cells).__name__}: a column is a list or an array of cells")
+    if hasattr(cells, "filled") and hasattr(cells, "mask"):  # numpy's masked arrays, whose memory has all cells
+        raise Shape(
+            f"column {name!r} is a masked array: filled() makes an array of it, and a list may have None where types "
+            "declare it, as '?l'"
+        )
 
 
 def named_columns(
@@ -87,11 +100,11 @@ def named_columns(
             listed.append(column._replace(cells=_numbers(column, declared, columns[name])))
             continue
         if is_time(columns[name]):
-            raise Shape(f"column {name!r} has dates or times, and no column has: astype('int64') makes ints of them")
+            raise Shape(f"column {name!r} has dates or times, which types declare: as {DECLARED}")
         cells = array_of(columns[name]) or _listed(columns[name])
         type_ = types[name] if name in types else _type_of(name, cells)
         if type_ not in _WRITERS:
-            raise Shape(f"column {name!r} has the type {type_!r}, and there are int, text and bool")
+            raise Shape(f"column {name!r} has the type {type_!r}: there are int, text and bool, and formats, as {DECLARED}")
         if isinstance(cells, memoryview) and type_of_array(cells) != type_:
             cells = cells.tolist()
         listed.append(Named(name, type_, cells, name in names))
@@ -117,7 +130,9 @@ def columns_for(rows: object, shaping: Shaping, keys_alone: bool) -> List[Named]
         if declared is not None:
             cells = _numbers(column, declared, given)
         elif is_time(given):
-            raise Shape(f"column {column.name!r} has dates or times, and isn't declared so")
+            format_ = shaping.formats[shaping.column(column.name)]
+            stands = f"is declared {format_!r}, whose values are ints" if format_ else f"isn't declared, as {DECLARED}"
+            raise Shape(f"column {column.name!r} has dates or times, and {stands}")
         else:
             cells = array_of(given) or _listed(given)
         if isinstance(cells, memoryview) and type_of_array(cells) != column.type:
@@ -209,7 +224,9 @@ def _type_of(name: str, cells: Sequence[Any]) -> str:
         return str(kinds.pop())
     if not cells:
         raise Shape(f"column {name!r} has no cells: types must name its type")
-    raise Shape(f"the cells of column {name!r} are not all ints, all texts or all truths")
+    raise Shape(
+        f"the cells of column {name!r} are not all ints, all texts or all truths: types declare other values, as {DECLARED}"
+    )
 
 
 def _kind_of(cell: object) -> Optional[str]:

@@ -9,7 +9,7 @@ from typing import Iterator, Mapping, Optional, Sequence, Type, Union
 from ._arrow import check_columns, new_fault, stream_of
 from ._cells import Cell, Key
 from ._columns import PassedColumns
-from ._errors import Conflict, Full, Shape, TooOld, check, error_of
+from ._errors import Duplicate, Missing, Shape, check, error_of
 from ._layers import Entry, Layer
 from ._library import NO_NUMBER, library
 from ._snapshot import Snapshot
@@ -52,15 +52,9 @@ class Transaction(Snapshot):
         Conflict, TooOld and Full end it: begin again, and do the work again. NoMemory and Lent leave it open as it was.
         In a database Unsure ends it too, and Failed and TooLong leave it open.
         """
-        number = c_uint64(NO_NUMBER)
-        with self._handle as at:
-            self._handle.may_end_alone()
-            self._handle.take_back()
-            try:
-                code = library.pdt_commit(at, byref(number))
-            finally:  # an interrupt comes here too: C has freed the transaction if it has told a number
-                if number.value != NO_NUMBER:
-                    self._handle.committed()
+        number = c_uint64()
+        with self._handle:
+            code = self._handle.end_by(library.pdt_commit, number)
         check_commit(code, number.value)
         return number.value
 
@@ -84,14 +78,8 @@ class Transaction(Snapshot):
         Conflict, TooOld and Full end it. What it says holds until the table's next commit. Made where no interrupt
         comes, as in a thread that isn't the main one: the store's lock is held from one call of C to the next.
         """
-        with self._handle as at:
-            self._handle.may_end_alone()
-            self._handle.take_back()
-            code = library.pdt_prepare(at, byref(c_uint64()))
-            if not code:
-                code = library.pdt_give_up(at)
-            elif code in (Conflict.code, TooOld.code, Full.code):
-                self._handle.committed()
+        with self._handle:
+            code = self._handle.decide()
         check(code)
 
     # ---- writes
@@ -104,7 +92,10 @@ class Transaction(Snapshot):
         numbers, texts, count = self._shaping.row(row)
         with self._handle as at:
             self._handle.take_back()
-            check(library.pdt_insert(at, numbers, texts, count))
+            code = library.pdt_insert(at, numbers, texts, count)
+            if code == Duplicate.code:
+                raise Duplicate(f"there is a row of the key {self._told(self._shaping.key_in(row))} already")
+            check(code)
             self._writes += 1
 
     def delete(self, key: Key) -> None:
@@ -112,7 +103,7 @@ class Transaction(Snapshot):
         numbers, texts, count = self._shaping.key(key)
         with self._handle as at:
             self._handle.take_back()
-            check(library.pdt_delete(at, numbers, texts, count))
+            self._check_there(library.pdt_delete(at, numbers, texts, count), key)
             self._writes += 1
 
     def set(self, key: Key, column: str, value: Cell) -> None:
@@ -124,8 +115,18 @@ class Transaction(Snapshot):
         number, text = self._shaping.cell(value, place)
         with self._handle as at:
             self._handle.take_back()
-            check(library.pdt_set(at, numbers, texts, count, place, number, text))
+            self._check_there(library.pdt_set(at, numbers, texts, count, place, number, text), key)
             self._writes += 1
+
+    def _check_there(self, code: int, key: Key) -> None:
+        if code == Missing.code:
+            raise Missing(f"there is no row of the key {self._told(key)}")
+        check(code)
+
+    def _told(self, key: Key) -> str:
+        """A key, and the table that it is in, for people."""
+        name = self._handle.name
+        return self._shaping.told(key) + ("" if name is None else f" in the table {name!r}")
 
     def insert_many(self, rows: Many) -> int:
         """Inserts the rows of columns, all of them or none, and answers how many they are.
@@ -183,9 +184,9 @@ class Transaction(Snapshot):
         self._end_savepoint(level.value, undo=False)
 
     def _end_savepoint(self, level: int, undo: bool) -> None:
-        with self._handle.keeping() as at:
-            if at is None:
-                return
+        if not self._handle.is_open:
+            return
+        with self._handle as at:
             if undo:
                 check(library.pdt_back_to(at, level))
                 self._writes += 1

@@ -176,9 +176,11 @@ class Streams(unittest.TestCase):
         for seed in range(SEED, SEED + CASES):
             drawn = Drawn(random.Random(seed))
             rows = drawn.rows(100) or [drawn.row()]
-            producer = drawn.producer(rows, drawn.places())
+            places = drawn.places()
+            producer = drawn.producer(rows, places)
             producer.has_bits = True
-            producer.null_at = drawn.draw.randrange(len(rows)), drawn.draw.randrange(len(drawn.types))
+            none = [at for at, place in enumerate(places) if place < drawn.keys or drawn.types[place] != "int"]
+            producer.null_at = drawn.draw.randrange(len(rows)), drawn.draw.choice(none)
             with self.subTest(seed=seed), self.assertRaises(narthexmace.Shape) as caught:
                 narthexmace.open(producer, key=drawn.names[: drawn.keys])
             fault = caught.exception
@@ -242,12 +244,12 @@ class Formats(unittest.TestCase):
         columns = [arrow.Column(*it) for it in (("id", "l"), ("x", "g"), ("y", "f"), ("day", "tdD"), ("at", "tsm:UTC"), ("d", "d:15,2"))]
         rows = [(1, 0.5, -0.25, 20_000, 7, 1250), (2, -1e300, 3.0, -1, -7, -5)]
         with narthexmace.open(arrow.Producer(columns, [rows]), key="id") as store:
-            formats = {"x": "g", "y": "g", "day": "tdD", "at": "tsm:UTC", "d": "d:15,2"}
+            formats = {"x": "?g", "y": "?g", "day": "?tdD", "at": "?tsm:UTC", "d": "?d:15,2"}
             self.assertEqual((store.declared, arrow.rows_of(store)), (formats, rows))
             with store.begin() as txn:
                 txn.upsert_many(arrow.Producer(columns, [[(3, 1.0, 2.0, 5, 6, 7)]]))
                 columns[3].format = "tdm"
-                with self.assertRaisesRegex(narthexmace.Shape, "column day is declared as tdD, and comes in as tdm"):
+                with self.assertRaisesRegex(narthexmace.Shape, r"column day is declared as \?tdD, and comes in as tdm"):
                     txn.upsert_many(arrow.Producer(columns, [rows]))
             self.assertEqual(arrow.rows_of(store)[2], (3, 1.0, 2.0, 5, 6, 7))
             for column, format_ in (("id", "?l"), ("x", "u"), ("nope", "g")):
@@ -267,6 +269,8 @@ class Formats(unittest.TestCase):
             consumer.close()
             with store.read() as table:
                 self.assertEqual(table.get(17), (17, None))
+            with narthexmace.open(store, key="id") as again:
+                self.assertEqual((again.declared, arrow.rows_of(again)), ({"n": "?g"}, rows))
 
     def test_a_database_keeps_what_is_declared(self) -> None:
         import tempfile
@@ -279,12 +283,12 @@ class Formats(unittest.TestCase):
                 db.create("b", "id:int:key,n:int\n")
             self.assertEqual(sorted(name for name in os.listdir(folder) if name.startswith("types")), ["types-1"])
             with narthexmace.connect(folder) as db:
-                self.assertEqual((db["a"].declared, db["b"].declared), ({"x": "g", "day": "tdD"}, {}))
+                self.assertEqual((db["a"].declared, db["b"].declared), ({"x": "?g", "day": "?tdD"}, {}))
                 self.assertEqual(arrow.rows_of(db["a"]), rows)
                 db["b"].declare("n", "?l")
                 db["a"].declare("day", None)
             with narthexmace.connect(folder) as db:
-                self.assertEqual((db["a"].declared, db["b"].declared), ({"x": "g"}, {"n": "?l"}))
+                self.assertEqual((db["a"].declared, db["b"].declared), ({"x": "?g"}, {"n": "?l"}))
                 db.drop("b")
             self.assertEqual(sorted(name for name in os.listdir(folder) if name.startswith("types")), ["types-1"])
             path = os.path.join(folder, "types-1")
@@ -297,10 +301,10 @@ class Formats(unittest.TestCase):
                     narthexmace.connect(folder)
                 self.assertEqual(caught.exception.file, "types-1")
             os.remove(path)
-            open(os.path.join(folder, "types-9"), "wb").close()  # of no table: it is taken away
+            open(os.path.join(folder, "types-9"), "wb").close()  # of no table: it isn't the database's, and stays
             with narthexmace.connect(folder) as db:
                 self.assertEqual((db["a"].declared, arrow.rows_of(db["a"].arrow(as_types={"x": "g"}))), ({}, rows))
-            self.assertEqual([name for name in os.listdir(folder) if name.startswith("types")], [])
+            self.assertEqual([name for name in os.listdir(folder) if name.startswith("types")], ["types-9"])
 
     def test_what_is_requested(self) -> None:
         short = arrow.consumed(narthexmace.open({"t": ["x"], "id": [1]}, key="id").arrow(as_types={"t": "u"}))

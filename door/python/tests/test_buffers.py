@@ -338,7 +338,7 @@ class Numpy(Case):
         for kind in ("timedelta64[ns]", "timedelta64[s]", "datetime64[ns]", "datetime64[D]"):
             times = numpy.array([1, 2], kind)
             for column in (times, list(times), times[::-1]):
-                with self.assertRaisesRegex(narthexmace.Shape, "int"):
+                with self.assertRaisesRegex(narthexmace.Shape, "types declare"):
                     narthexmace.open({"id": column}, key="id")
                 with self.assertRaises(narthexmace.Shape):
                     narthexmace.open({"id": column}, key="id", types={"id": "int"})

@@ -3,11 +3,12 @@ import errno
 import gc
 import os
 import shutil
+import sys
 import threading
 import unittest
 import warnings
 from array import array
-from typing import Any
+from typing import Any, List
 from unittest import mock
 
 import narthexmace
@@ -54,6 +55,46 @@ class Openings(Case):
             txn.set(2, "qty", 21)
             self.assertEqual(txn.commit(), 4)  # numbers go on
             self.assertEqual(repr(db), f"<Database {str(self.folder)!r} of items, orders, 4 commits>")
+
+    def test_a_folder_that_is_only_read_is_left_as_it_is(self) -> None:
+        fault = self.refused(narthexmace.Missing, narthexmace.connect, self.folder, read_only=True)
+        self.assertFalse(self.folder.exists(), fault)
+        with self.connect() as db:
+            insert(db.create("items", ITEMS), INK)
+            self.refused(narthexmace.Locked, narthexmace.connect, self.folder, read_only=True)
+        before = {file.name: (file.stat().st_mtime_ns, file.stat().st_size) for file in self.folder.iterdir()}
+        with self.connect(read_only=True) as one, self.connect(read_only=True) as other:
+            self.assertEqual((rows(one["items"]), rows(other["items"])), ([INK], [INK]))
+            self.refused(narthexmace.Locked, narthexmace.connect, self.folder)
+            with self.assertRaises(narthexmace.ReadOnlyDatabase):
+                one.create("more", ITEMS)
+            self.refused(narthexmace.ReadOnlyDatabase, one.drop, "items")
+            self.refused(narthexmace.ReadOnlyDatabase, one.upkeep)
+            with one["items"].begin() as txn:
+                txn.insert(PEN)
+                self.refused(narthexmace.ReadOnlyDatabase, txn.commit)
+                self.assertEqual(len(txn), 2)  # it is still open
+                txn.abort()
+        self.assertEqual({file.name: (file.stat().st_mtime_ns, file.stat().st_size) for file in self.folder.iterdir()}, before)
+
+    def test_files_are_made_by_a_mode(self) -> None:
+        with self.connect(mode=0o600):
+            self.assertEqual(self.folder.stat().st_mode & 0o777, 0o700)
+            self.assertEqual({file.stat().st_mode & 0o777 for file in self.folder.iterdir()}, {0o600})
+
+    def test_what_late_commits_need_is_bounded(self) -> None:
+        with self.connect(upkeep=False, kept_bytes=20_000) as db:
+            items = db.create("items", {"id": range(100), "qty": range(100)}, key="id")
+            late = items.begin()
+            late.insert((200, 0))
+            for number in range(20):
+                with items.begin() as txn:
+                    for key in range(100):
+                        txn.set(key, "qty", number)
+            self.assertGreater(db.counts().kept_bytes, 40_000)
+            db.upkeep()
+            self.assertLessEqual(db.counts().kept_bytes, 20_000)
+            self.refused(narthexmace.TooOld, late.commit)
 
     def test_a_folder_of_the_program_becomes_a_database(self) -> None:
         shutil.copytree(HERE.parent / "c/tests/fixtures/run", self.folder)
@@ -113,7 +154,7 @@ class Openings(Case):
     def test_options_that_are_none(self) -> None:
         for words in [
             {"sync": "on"}, {"sync": None}, {"sync": 0}, {"fold_entries": 0}, {"checkpoint_entries": -1},
-            {"journal_bytes": 2**64},
+            {"journal_bytes": 2**64}, {"kept_bytes": 0}, {"mode": 0}, {"mode": 0o1000},
         ]:  # fmt: skip
             self.refused(narthexmace.BadLimit, narthexmace.connect, self.folder, **words)
         self.refused(TypeError, narthexmace.connect, self.folder, fold_entries="many")
@@ -123,7 +164,7 @@ class Openings(Case):
         header = (HERE.parent / "c/pdt.h").read_text()
         for name, value in [
             ("fold_entries", _library.FOLD_ENTRIES), ("checkpoint_entries", _library.CHECKPOINT_ENTRIES),
-            ("journal_bytes", _library.JOURNAL_BYTES),
+            ("journal_bytes", _library.JOURNAL_BYTES), ("kept_bytes", _library.KEPT_BYTES),
         ]:  # fmt: skip
             self.assertRegex(header, rf"uint64_t {name}; .*: {value:,} \*/")
 
@@ -179,6 +220,7 @@ class Locks(Case):
         db = self.connect(upkeep=False)
         items = db.create("items", ITEMS)
         insert(items, INK)
+        table, pin = items.read(), items.pin()
         child = os.fork()
         if not child:
             calls = [items.begin, items.read, db.begin, db.read, db.counts, db.close, db.upkeep, lambda: db["items"]]
@@ -190,7 +232,8 @@ class Locks(Case):
                     kinds.append("child of fork" in str(fault))
                 except BaseException:
                     kinds.append(False)
-            os.write(told[1], b"%d" % (kinds == [True] * len(calls)))
+            kinds += [table.is_open, pin.is_open]  # the parent's, which a refused close doesn't end
+            os.write(told[1], b"%d" % all(kinds))
             os.close(asks[1])
             os.read(asks[0], 1)  # until the parent is done
             os._exit(0)
@@ -400,19 +443,24 @@ class Tables(Case):
 
 
 class Ends(Case):
-    def test_what_is_open_keeps_a_database_open(self) -> None:
+    def test_a_transaction_keeps_a_database_open_and_what_reads_ends_with_it(self) -> None:
         db = self.connect()
         items = db.create("items", ITEMS)
-        for opened in (items.begin, items.read, db.begin, db.read):
-            one = opened()
+        for opened in (items.begin, db.begin):
+            one, pin, table, tables = opened(), items.pin(), items.read(), db.read()
             self.assertIn("is open", str(self.refused(narthexmace.Misuse, db.close)))
+            self.assertEqual((len(table), len(pin.read()), len(tables["items"])), (0, 0, 0))  # all goes on
             one.abort()
-        pin = items.pin()
-        self.assertIn("'items' has 1 pin:", str(self.refused(narthexmace.Misuse, db.close)))
-        pin.close()
-        insert(items, INK)  # all goes on
+        insert(items, INK)
+        part, scan = tables["items"], items.arrow()
         db.close()
         db.close()
+        for call in (lambda: len(table), lambda: len(part), lambda: tables["items"], pin.read, pin.begin,
+                     scan.__arrow_c_stream__):  # fmt: skip
+            self.refused(narthexmace.Misuse, call)
+        self.assertEqual([it.is_open for it in (table, part, tables, pin)], [False] * 4)
+        with narthexmace.connect(self.folder) as again:
+            self.assertEqual(rows(again["items"]), [INK])
         for call in [
             db.begin, db.read, db.counts, db.upkeep, lambda: db["items"], lambda: "items" in db, lambda: list(db),
             lambda: len(db), lambda: db.create("new", ITEMS), lambda: db.drop("items"), items.begin, items.read,
@@ -478,6 +526,37 @@ class Ends(Case):
                 for call in (copy.copy, copy.deepcopy, pickle.dumps):
                     with self.assertRaisesRegex(TypeError, "can't be copied or pickled"):
                         call(thing)
+
+    def test_one_that_is_dropped_is_closed_where_warnings_are_errors(self) -> None:
+        """As in a run of tests with -W error: the warning is raised, and the folder isn't locked."""
+        told: List[Any] = []
+        with warnings.catch_warnings(), mock.patch.object(sys, "unraisablehook", told.append):
+            warnings.simplefilter("error")
+            db = narthexmace.connect(self.folder)
+            del db
+            gc.collect()
+        self.assertEqual([type(it.exc_value) for it in told], [ResourceWarning])
+        with narthexmace.connect(self.folder):
+            pass
+
+    def test_each_option_is_passed_on(self) -> None:
+        """What ``connect`` is given, and what C has of it."""
+        words = {"sync": 0, "early_reads": False, "no_upkeep": False, "fold_entries": 1024, "checkpoint_entries": 10_000,
+                 "journal_bytes": 67_108_864}  # fmt: skip
+        cases = [({}, {}), ({"sync": "normal"}, {"sync": 1}), ({"sync": "off"}, {"sync": 2}),
+                 ({"early_reads": True}, {"early_reads": True}), ({"upkeep": False}, {"no_upkeep": True}),
+                 ({"fold_entries": 7}, {"fold_entries": 7}), ({"checkpoint_entries": 8}, {"checkpoint_entries": 8}),
+                 ({"journal_bytes": 9_000}, {"journal_bytes": 9_000})]  # fmt: skip
+        opens, passed = _library.library.pdt_database_open, []
+
+        def noted(path: bytes, options: Any, *given: Any) -> int:
+            passed.append({name: getattr(options._obj, name) for name in words})
+            return int(opens(path, options, *given))
+
+        for given, due in cases:
+            with self.subTest(given=given), mock.patch.object(_library.library, "pdt_database_open", noted):
+                narthexmace.connect(self.folder, **given).close()  # type: ignore[arg-type]
+                self.assertEqual(passed[-1], {**words, **due})
 
     def test_an_interrupt_in_an_opening_or_a_close(self) -> None:
         for name in ("pdt_database_open", "pdt_database_close"):

@@ -333,13 +333,12 @@ class Run(Calls):
     def on_closed(self) -> Pair:
         """A store with an open transaction stays open; one that is closed takes no call."""
         store = self.opened(self.model.image())
-        txn = self.draw.choice([store.begin, store.read])()
-        got = [self.refuses(narthexmace.Misuse, store.close), len(txn) == len(self.model.rows)]
+        txn, table, pin = store.begin(), store.read(), store.pin()
+        got = [self.refuses(narthexmace.Misuse, store.close)]
+        got += [len(it) == len(self.model.rows) for it in (txn, table, pin.read())]
         txn.abort()
-        pin = store.pin()
-        got += [self.refuses(narthexmace.Misuse, store.close), len(pin.read()) == len(self.model.rows)]
-        pin.close()
         store.close()
+        got += [self.refuses(narthexmace.Misuse, call) for call in (pin.read, lambda: len(table))]
         calls: List[Callable[[], Any]] = [store.begin, store.read, store.fold, store.cut, store.sizes, store.layers,
                                           store.pin, store.counts, lambda: store.wait(0, 9), lambda: store.changes(0)]
         got += [self.refuses(narthexmace.Misuse, call) for call in [*calls, lambda: store.checkpoint("/")]]

@@ -18,7 +18,7 @@ from .watching import Watch, wanted_of_databases
 CALLS = int(os.environ.get("NARTHEXMACE_CALLS", "5000"))
 SEED = int(os.environ.get("NARTHEXMACE_SEED", "1"))
 #: What no drawn call raises: test_damage has files that are damaged, and devices that fail.
-NEVER = {"Rot", "Gap", "Misfit", "Unsure", "Failed", "TooLong"}
+NEVER = {"Rot", "Gap", "Misfit", "Unsure", "Failed", "TooLong", "NewerFormat"}
 #: What is behind no name of its own.
 CLAUSES = {
     "commit Committed", "commit Conflict", "commit TooOld", "commit Full", "commit of nothing", "commit of several",
@@ -90,7 +90,7 @@ class Several:
         self.db = narthexmace.connect(
             folder=self.folder, sync=draw.choice(SYNCS), early_reads=self.chance(0.3), upkeep=self.chance(0.5),
             fold_entries=draw.choice([1, 5, 100]), checkpoint_entries=draw.choice([1, 20, 1000]),
-            journal_bytes=draw.choice([1, 900, 100_000]),
+            journal_bytes=draw.choice([1, 900, 100_000]), kept_bytes=2**28, mode=0o640,
         )  # fmt: skip
 
     def step(self) -> Tuple[str, Any, Any]:
@@ -280,7 +280,7 @@ class Several:
 
     def on_counts(self) -> Pair:
         it = self.db.counts()
-        told = (it.batches, it.syncs, it.folds, it.images, it.journal_bytes)
+        told = (it.batches, it.syncs, it.folds, it.images, it.journal_bytes, it.kept_bytes)
         got = (it.commits, it.tables, it.faults, it.safe <= it.commits, min(told) >= 0, it.journal_files > 0)
         return got, (self.commits, len(self.models), 0, True, True, True)
 
@@ -288,8 +288,8 @@ class Several:
         return self.refused(lambda: narthexmace.connect(self.folder)), "Locked"
 
     def on_close(self) -> Pair:
-        """It is closed once nothing is open, and takes no call then."""
-        if self.open or self.readers:
+        """It is closed once no transaction is open, and takes no call then."""
+        if self.open:
             return self.refused(self.db.close), "Misuse"
         got = [self.refused(call) for call in (self.db.close, self.db.close, self.db.begin)]
         self.on_again()
@@ -303,12 +303,17 @@ class Several:
         self.readers.clear()
         with self.db:
             before = self.db.report.commits
+        with narthexmace.connect(self.folder, read_only=True) as reader:
+            shown = {name: reader[name].read()[:] for name in reader}
+            refused = self.refused(lambda: reader.create("no", HEADER))
         self.connect()
         self.note("opened again after commits" if before < self.commits else "opened again")
         for table in self.models.values():  # those that began before are gone, and so is what changed
             table.base = len(table.commits)
         report = self.db.report
-        return (report.commits, report.torn_bytes, report.replayed <= self.commits), (self.commits, 0, True)
+        got = (report.commits, report.torn_bytes, report.replayed <= self.commits, refused, shown)
+        due = (self.commits, 0, True, "ReadOnlyDatabase", {name: table.image() for name, table in self.models.items()})
+        return got, due
 
     def end(self) -> Pair:
         self.on_again()

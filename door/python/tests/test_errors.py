@@ -10,6 +10,8 @@ import sys
 import tempfile
 import threading
 import unittest
+from contextlib import suppress
+from datetime import datetime
 from pathlib import Path
 from typing import Any, Callable, Type
 from unittest import mock
@@ -41,6 +43,7 @@ class Codes(unittest.TestCase):
             "PDT_EXISTS": "Exists", "PDT_SUPERSEDED": "Superseded", "PDT_NOT_ASCENDING": "NotAscending",
             "PDT_DEVICE_FAILED": "DeviceFailed", "PDT_LOCKED": "Locked", "PDT_ROT": "Rot", "PDT_GAP": "Gap",
             "PDT_MISFIT": "Misfit", "PDT_UNSURE": "Unsure", "PDT_FAILED": "Failed", "PDT_TOO_LONG": "TooLong",
+            "PDT_READONLY": "ReadOnlyDatabase", "PDT_NEWER_FORMAT": "NewerFormat",
         }  # fmt: skip
         there = codes()
         self.assertEqual(set(there), {"PDT_OK", *names})
@@ -104,7 +107,46 @@ class Writes(Case):
             self.assertEqual(txn[:], ROWS)
             with self.assertRaises(KeyError) as caught:
                 txn.delete(30)
-            self.assertEqual(str(caught.exception), "there is no such row, mark or commit")  # and not in quotes
+            self.assertEqual(str(caught.exception), "there is no row of the key 30")  # and not in quotes
+
+    def test_refusals_name_the_key_and_the_column(self) -> None:
+        """And the table of a database, also in a work."""
+        pairs = {"town": ["x", "y"], "there": [False, True], "n": [1, 2]}
+        with narthexmace.open(pairs, key=["town", "there"]) as store, store.begin() as txn:
+            for call, given, why in [
+                (txn.insert, (("x", False, 3),), "there is a row of the key ('x', False) already"),
+                (txn.insert, ({"n": 3, "there": True, "town": "y"},), "there is a row of the key ('y', True) already"),
+                (txn.delete, (("x", True),), "there is no row of the key ('x', True)"),
+                (txn.set, (("z" * 4000, True), "n", 1), "there is no row of the key ('zzz"),
+                (txn.insert, ({"n": 3, "there": True},), "the row has no column 'town'"),
+                (txn.insert, ({"n": 3, "there": True, "town": "", "m": 1},), "the table has no column 'm'"),
+                (txn.insert, (("z", True, 1.5),), "column 'n': 1.5 stands where an int should"),
+                (txn.delete, (("x", 1),), "column 'there': 1 stands where True or False should"),
+                (txn.set, (("x", True), "n", "1"), "column 'n': '1' stands where an int should"),
+            ]:
+                with self.assertRaises(narthexmace.Error) as caught:
+                    call(*given)
+                told = str(caught.exception)
+                self.assertEqual(told[: len(why)], why)
+                self.assertLess(len(told), 200)
+        with tempfile.TemporaryDirectory() as folder, narthexmace.connect(Path(folder, "shop")) as db:
+            items = db.create("items", {"id": [1]}, key="id")
+            with items.begin() as txn:
+                self.assertRaisesRegex(narthexmace.Duplicate, "of the key 1 in the table 'items' already", txn.insert, (1,))
+            with db.begin() as work:
+                self.assertRaisesRegex(narthexmace.Missing, "no row of the key 2 in the table 'items'", work["items"].delete, 2)
+
+    def test_refusals_name_the_way_in_for_other_values(self) -> None:
+        """Floats, dates and NULL are declared: no advice is false."""
+        noon = datetime(2026, 1, 1, 12)
+        for cells, format_ in (([1.5, -2.5], "g"), ([noon, noon], "tsu:"), ([noon.date()] * 2, "tdD"), ([1, None], "?l")):
+            columns = {"id": [1, 2], "x": cells}
+            with self.assertRaises(narthexmace.Shape) as caught:
+                narthexmace.open(columns, key="id")
+            self.assertIn("types declare", str(caught.exception))
+            self.assertRaisesRegex(narthexmace.Shape, "'tdD' of dates", narthexmace.open, columns, key="id", types={"x": "float"})
+            with narthexmace.open(columns, key="id", types={"x": format_}) as store, store.read() as table:
+                self.assertEqual([row[1] for row in table], cells)
 
     def test_cells_that_do_not_fit(self) -> None:
         with self.store.begin() as txn:
@@ -565,6 +607,26 @@ class Ends(Case):
             rows = iter(txn)
             self.assertEqual(next(rows), ROWS[1])
 
+    def test_a_scan_ends_where_rows_are_written_at_once_or_undone(self) -> None:
+        """Of insert_many, upsert_many, delete_many and a savepoint: rows would come twice, or not at all."""
+
+        def undone(txn: narthexmace.Transaction) -> None:
+            with suppress(KeyError), txn.savepoint():
+                raise KeyError
+
+        row = {"id": [1], "name": ["new"], "qty": [5], "new": [True]}
+        columns = {name: cells for name, cells in row.items() if name in [it.name for it in self.store.columns]}
+        writes = [lambda txn: txn.insert_many(columns), lambda txn: txn.upsert_many(columns), undone,
+                  lambda txn: txn.delete_many({"id": [10]})]  # fmt: skip
+        for write in writes:
+            with self.store.begin() as txn:
+                batches, rows, several = txn.scan(batch=1), iter(txn), txn.scan()
+                next(batches), next(rows)
+                write(txn)
+                self.refused(narthexmace.Misuse, next, batches)
+                self.refused(narthexmace.Misuse, next, several)
+                txn.abort()
+
     def test_two_threads_in_one_transaction(self) -> None:
         txn = self.store.begin()
         entered, leave, told = threading.Event(), threading.Event(), []
@@ -584,6 +646,37 @@ class Ends(Case):
             thread.join()
         self.assertEqual((told, len(txn)), ([None], 2))
         txn.abort()
+
+    def test_a_call_within_a_call_of_one_thread(self) -> None:
+        """As in a stream that Python makes, which C asks for its rows."""
+        txn, told = self.store.begin(), []
+
+        def asks(*_: Any) -> int:
+            for call in [*self.calls(txn), txn.abort, self.store.close]:
+                told.append(self.refused(narthexmace.Misuse, call))
+            return 0
+
+        with mock.patch.object(_transaction.library, "pdt_delete", asks):
+            txn.delete(10)
+        txn.abort()
+
+        def closes(*_: Any) -> int:
+            told.append(self.refused(narthexmace.Misuse, self.store.close))
+            return 0
+
+        with mock.patch.object(_handles.library, "pdt_fold", closes):
+            self.store.fold()
+        self.assertEqual(len(told), len(self.calls(txn)) + 3)
+
+    def test_what_an_interrupt_leaves_of_a_call_is_no_call(self) -> None:
+        """The lock of a transaction, and the count of calls of a store, where an interrupt came before their end."""
+        txn = self.store.begin()
+        txn._handle._lock.acquire()
+        self.store._handle.count_call()
+        txn.set(10, "qty", 1)
+        txn.commit()
+        self.store.close()
+        self.refused(narthexmace.Misuse, self.store.begin)
 
     def under_a_call(self, check: Callable[[], None]) -> None:
         """Makes a check while another thread is in a call of the store."""

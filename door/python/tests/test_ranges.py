@@ -20,6 +20,7 @@ from datetime import date, datetime, timezone
 from decimal import Decimal
 from pathlib import Path
 from typing import Any, Callable, Dict, Iterator, List, Optional, Set, Tuple, Type
+from unittest import mock
 
 import narthexmace
 from narthexmace import Conflict, Duplicate, Exists, Gap, Locked, Missing, Shape
@@ -29,16 +30,18 @@ from . import LIMIT, test_docs
 from .folders import HERE
 
 try:
+    import dask
     import distributed
+    import pandas
     import narthexmace.dask as ranges
-    from narthexmace import _ranges_frame
+    from narthexmace import _ranges_calls, _ranges_frame
 except ImportError:
     distributed = None  # type: ignore[assignment]
 
 KILLS = int(os.environ.get("NARTHEXMACE_KILLS", "3"))
 SEED = int(os.environ.get("NARTHEXMACE_SEED", "1"))
 #: How long a call waits for its ranges; where workers are killed while others go on, and where one is stopped.
-SECONDS, KILLED, STOPPED = 60.0, 8.0, 1.5
+SECONDS, KILLED, STOPPED = LIMIT, 8.0, 1.5
 #: The ranges of the bank, how far apart they begin, and what is in each account.
 PLACES, APART, ACCOUNTS, START = 4, 1_000_000, 50, 100
 
@@ -92,6 +95,10 @@ def process_of(table: narthexmace.Snapshot) -> int:
     return os.getpid()
 
 
+def raises(*_: object) -> None:
+    raise KeyboardInterrupt
+
+
 def keeps_names(count: int) -> None:
     """Has ranges keep the names of so many transactions."""
     _ranges_owner.NAMES = count
@@ -117,14 +124,17 @@ _shared: List[Any] = []
 def cluster_and_client() -> Tuple[Any, Any]:
     """A cluster of more workers than ranges, each a process: one that is killed is started again by Dask.
 
-    Where Dask has not done so for some time, as where a worker ends while it starts, there is another cluster.
+    By default Dask gives a worker up for good that isn't back in 15 seconds, and a call that doesn't come through in 30.
+    Where it has not started one for some time, as where a worker ends while it starts, there is another cluster.
     """
     if _shared:
         try:
-            _shared[1].wait_for_workers(PLACES + 1, timeout=30)
+            _shared[1].wait_for_workers(PLACES + 1, timeout=LIMIT)
         except (TimeoutError, distributed.TimeoutError):
             tearDownModule()
     if not _shared:
+        limits = ("deploy.lost-worker-timeout", "comm.timeouts.connect", "comm.timeouts.tcp")
+        dask.config.set({f"distributed.{name}": f"{10 * LIMIT:.0f}s" for name in limits})
         os.environ["PYTHONPATH"] = str(HERE)  # of the workers
         cluster = distributed.LocalCluster(
             n_workers=PLACES + 2, threads_per_worker=2, processes=True, dashboard_address=":0", silence_logs=60
@@ -170,6 +180,28 @@ class Clusters(unittest.TestCase):
     def process(self, table: "ranges.Ranges", place: int) -> int:
         """The process of a range's worker."""
         return int(table.map(process_of)[place])
+
+    def kill(self, table: "ranges.Ranges", place: int) -> None:
+        """Kills the worker of a range."""
+        os.kill(self.process(table, place), signal.SIGKILL)
+
+    @contextmanager
+    def dies_while_it_opens(self, place: int) -> Iterator[List[str]]:
+        """The first worker that is to open a range is stopped before it can, and killed then. It is in the list."""
+        opens, killed = _ranges_calls.Range.opens, []
+
+        def opens_and_kills(it: Any, address: str, *given: Any) -> None:
+            if it.place != place or killed:
+                return opens(it, address, *given)
+            killed.append(address)
+            process = self.client.run(os.getpid, workers=[address])[address]
+            os.kill(process, signal.SIGSTOP)
+            opens(it, address, *given)
+            os.kill(process, signal.SIGKILL)
+
+        with mock.patch.object(_ranges_calls.Range, "opens", opens_and_kills):
+            yield killed
+        self.assertEqual(len(killed), 1, "no worker was to open it")
 
     def until_answered(self, call: Callable[[], Any]) -> Any:
         """What a call answers once its range is reached."""
@@ -260,8 +292,9 @@ class Reads(Clusters):
         self.assertEqual(self.rows(table), due)
         whole = table.frame().compute(scheduler=self.client)
         told = [str(it) for it in whole.dtypes]
-        self.assertEqual(told, ["object", "float64", "datetime64[ns, UTC]", "object", "object"])
-        self.assertEqual([whole["day"].tolist(), whole["n"].tolist()], [[row[at] for row in due] for at in (0, 3)])
+        self.assertEqual(told, ["object", "float64", "datetime64[ns, UTC]", "Int64", "object"])
+        numbers = [None if it is pandas.NA else it for it in whole["n"].tolist()]
+        self.assertEqual([whole["day"].tolist(), numbers], [[row[at] for row in due] for at in (0, 3)])
         self.assertEqual(whole["price"].tolist(), [row[4] for row in due])
         table.close()
         self.assertEqual(self.rows(self.connect()), due)
@@ -315,6 +348,114 @@ class Reads(Clusters):
         old.close()
         self.refused(ranges.Gone, self.rows, table, old)
         self.assertRaises(ranges.Gone, frame["sum"].sum().compute, scheduler=self.client)
+
+
+class Deaths(Clusters):
+    """What is done next when a worker has died."""
+
+    def test_a_frame_after_a_worker_has_died(self) -> None:
+        table = self.create({"id": range(400), "sum": [1] * 400}, key="id", bounds=[100, 200, 300])
+        before = table.frame()
+        self.kill(table, 1)
+        with self.assertRaises(ranges.Gone):  # the coordinator does not hear of it
+            before["sum"].sum().compute(scheduler=self.client)
+        self.assertEqual(int(table.frame()["sum"].sum().compute(scheduler=self.client)), 400)
+        self.kill(table, 2)
+        self.assertEqual(int(table.frame()["sum"].sum().compute(scheduler=self.client)), 400)
+
+    def test_a_worker_that_dies_while_it_opens_a_range(self) -> None:
+        """Of a table that is made, of one that is opened, and of one that heals: another worker opens it each time."""
+        columns = {"id": [0, 10, 20, 30], "sum": [100, 0, 0, 0]}
+        with self.dies_while_it_opens(1):
+            table = self.create(columns, key="id", bounds=[10, 20, 30])
+        due = list(zip(*columns.values()))
+        self.assertEqual(self.rows(table), due)
+        table.close()
+        with self.dies_while_it_opens(2):
+            table = self.connect()
+        self.assertEqual(self.rows(table), due)
+        self.kill(table, 3)
+        with self.dies_while_it_opens(3):  # the other one may have a range, too
+            self.assertEqual(self.until_answered(lambda: self.rows(table)), due)
+
+    def test_a_range_is_made_by_another_worker_where_one_dies_in_the_midst(self) -> None:
+        opens, opened = _ranges_calls.Range.opens, []
+
+        def opens_and_dies(it: Any, address: str, *given: Any) -> None:
+            if it.place == 1:
+                opened.append(address)
+                if len(opened) == 1:
+                    self.client.run(dies_at, "made", 1, workers=[address])
+            opens(it, address, *given)
+
+        with mock.patch.object(_ranges_calls.Range, "opens", opens_and_dies):
+            table = self.create({"id": [0, 10, 20], "sum": [1, 2, 3]}, key="id", bounds=[10, 20])
+        self.assertGreater(len(opened), 1)
+        self.assertEqual(self.rows(table), [(0, 1), (10, 2), (20, 3)])
+
+    def test_a_worker_that_dies_while_an_opening_installs_what_was_decided(self) -> None:
+        table = self.create({"id": [0, 10, 20], "sum": [5, 6, 7]}, key="id", bounds=[10, 20])
+        with mock.patch.object(table._coordinator, "_install", raises), suppress(KeyboardInterrupt):
+            with table.begin() as txn:
+                txn.set(0, "sum", 1)
+                txn.set(20, "sum", 2)
+        self.assertEqual(self.rows(table), [(0, 5), (10, 6), (20, 7)])
+        table.close()
+        opens, opened = _ranges_calls.Range.opens, []
+
+        def opens_and_dies(it: Any, address: str, *given: Any) -> None:
+            if it.place == 2:
+                opened.append(address)
+                if len(opened) == 1:
+                    self.client.run(dies_at, "installs", 2, workers=[address])
+            opens(it, address, *given)
+
+        with mock.patch.object(_ranges_calls.Range, "opens", opens_and_dies):
+            table = self.connect()
+        self.assertGreater(len(opened), 1)
+        self.assertEqual(self.rows(table), [(0, 1), (10, 6), (20, 2)])
+        self.assertEqual(table.outcome(txn.name), "committed")
+
+    def test_a_commit_goes_by_the_next_worker_where_two_die(self) -> None:
+        table = self.create({"id": [0, 10], "sum": [5, 7]}, key="id", bounds=[10])
+        for number, (step, there) in enumerate((("commits", False), ("committed", True)), 1):
+            self.client.run(dies_at, step, 1, workers=[table.workers[1]])
+            txn = table.begin()
+            txn.set(10, "sum", number)
+            with self.subTest(step=step), self.dies_while_it_opens(1):
+                if there:
+                    self.assertEqual(txn.commit(), table.vector)
+                else:
+                    self.assertEqual(self.refused(ranges.Gone, txn.commit).outcome, "not committed")
+            self.assertEqual(table.get(10), (10, number if there else 7))
+
+    def test_a_worker_that_had_several_ranges_dies(self) -> None:
+        """The first call over all ranges is right: all that are lost are known, and opened, before it is made again."""
+        count = 2 * (PLACES + 2)
+        table = self.create({"id": range(count), "sum": [1] * count}, key="id", bounds=range(1, count))
+        owned = max(table.workers.count(address) for address in table.workers)
+        self.assertGreater(owned, 1)
+        due = [(place, 1) for place in range(count)]
+        self.kill(table, 0)
+        self.assertEqual(self.rows(table), due)
+        place = next(it for it, address in enumerate(table.workers) if table.workers.count(address) > 1)
+        self.kill(table, place)
+        with table.pin() as pin:
+            self.assertEqual(self.rows(table, pin), due)
+        place = next(it for it, address in enumerate(table.workers) if table.workers.count(address) > 1)
+        self.kill(table, place)
+        self.assertEqual(int(table.frame()["sum"].sum().compute(scheduler=self.client)), count)
+
+    def test_a_range_that_comes_back_with_another_version_is_refused(self) -> None:
+        table = self.create({"id": [0, 10], "sum": [5, 7]}, key="id", bounds=[10])
+        first = table._coordinator.ranges[1]
+        first.ask("close").answer(table._deadline())
+        with narthexmace.connect(f"{self.folder}/range-1") as db, db["rows"].begin() as txn:
+            txn.set(10, "sum", 8)
+        for _ in range(2):
+            error = self.refused(narthexmace.Misfit, table.get, 10)
+            self.assertIn("range 1 has version", str(error))
+        self.assertEqual(table.get(0), (0, 5))
 
 
 class Commits(Clusters):
@@ -410,6 +551,38 @@ class Commits(Clusters):
         _ranges_steps.hook = None
         table.close()
         self.assertEqual([row[1] for row in self.rows(self.connect())], [98, 0, 2, 0])
+
+    def test_an_interrupt_of_a_commit_ends_its_wait_alone(self) -> None:
+        """It goes on, and its outcome is known; the next commits are none the worse."""
+        table = self.bank()
+        self.addCleanup(setattr, _ranges_steps, "hook", None)
+        self.addCleanup(signal.signal, signal.SIGUSR1, signal.signal(signal.SIGUSR1, raises))
+        for number, step in enumerate(("prepared", "written", "decided", "taken"), 1):
+            caught = threading.Event()
+
+            def interrupts(reached: str, at: Optional[int], step: str = step, caught: Any = caught) -> None:
+                if reached == step and not caught.is_set():
+                    signal.pthread_kill(threading.main_thread().ident or 0, signal.SIGUSR1)
+                    caught.wait(LIMIT)
+
+            with self.subTest(step=step):
+                txn = table.begin()
+                txn.set(0, "sum", 100 - number)
+                txn.set(20, "sum", number)
+                _ranges_steps.hook = interrupts
+                try:
+                    self.assertRaises(KeyboardInterrupt, txn.commit)
+                finally:
+                    caught.set()
+                self.assertEqual(table.outcome(txn.name), "committed")
+                self.assertEqual(self.rows(table), [(0, 100 - number), (10, 0), (20, number), (30, 0)])
+        _ranges_steps.hook = None
+        with table.begin() as txn:
+            txn.set(0, "sum", 1)
+            txn.set(30, "sum", 99)
+        self.assertEqual(self.rows(table), [(0, 1), (10, 0), (20, 4), (30, 99)])
+        table.close()
+        self.assertEqual(self.rows(self.connect()), [(0, 1), (10, 0), (20, 4), (30, 99)])
 
     def test_a_long_log_is_written_anew_and_old_names_are_forgotten(self) -> None:
         table, most, names = self.bank(), _ranges_log.MOST_BYTES, _ranges_owner.NAMES
@@ -600,7 +773,7 @@ class Bank(Clusters):
 
     def goes_until(self, holds: Callable[[], bool]) -> None:
         """Waits until something holds of the threads, or one of them has failed."""
-        end = time.monotonic() + LIMIT
+        end = time.monotonic() + 2 * LIMIT
         while not holds() and time.monotonic() < end and not self.stop.is_set():
             time.sleep(0.05)
 

@@ -1,10 +1,12 @@
 """What tables in ranges are made of, without Dask: the log of decisions, the owner of a range, and how it votes."""
 import os
+import random
 import resource
 import signal
 import subprocess
 import sys
 import tempfile
+import threading
 import unittest
 from pathlib import Path
 from typing import Any, Dict, List, Optional
@@ -12,7 +14,7 @@ from unittest import mock
 
 import narthexmace
 from narthexmace import Conflict, Gap, Locked, Rot
-from narthexmace import _ranges_errors, _ranges_log, _ranges_owner
+from narthexmace import _ranges_errors, _ranges_layout, _ranges_log, _ranges_owner, _ranges_turns
 from narthexmace._ranges_owner import First, Owner, Status
 
 from . import LIMIT
@@ -129,6 +131,93 @@ class Logs(unittest.TestCase):
         log.append(self.decision(log.next))
         log.close()
         self.assertEqual(len(self.open().decisions), 1)
+
+
+class Synced(unittest.TestCase):
+    """What a crash leaves of a file that is put into the place of another."""
+
+    def test_a_file_is_on_the_device_before_it_has_its_name(self) -> None:
+        """``ranges.json`` and the log of decisions, which a power cut would leave empty under their names."""
+        with tempfile.TemporaryDirectory() as folder:
+            synced: Dict[str, bytes] = {}  # what the device has of each file
+            renamed: List[str] = []
+
+            def sync(file: int) -> None:
+                path = os.readlink(f"/proc/self/fd/{file}")
+                synced[path] = b"" if os.path.isdir(path) else Path(path).read_bytes()
+
+            def replace(source: str, target: str) -> None:
+                self.assertEqual(synced.get(source), Path(source).read_bytes(), source)
+                rename(source, target)
+                renamed.append(os.path.basename(target))
+                synced.pop(folder, None)
+
+            rename = os.replace
+            with mock.patch.object(os, "fsync", sync), mock.patch.object(os, "replace", replace):
+                _ranges_layout.Layout((narthexmace.Column("id", "int", True),), (None,), ((7,),)).write(folder)
+                self.assertIn(folder, synced, "the name isn't on the device")
+                _ranges_log.Log.make(folder)
+                log = _ranges_log.Log(folder)
+                self.addCleanup(log.close)
+                log.rewrite([])
+                self.assertIn(folder, synced, "the name isn't on the device")
+            self.assertEqual(renamed, ["ranges.json", *["decisions.log"] * 3])
+
+
+class TurnsOfOne(unittest.TestCase):
+    """The thread that makes the calls of a coordinator."""
+
+    def setUp(self) -> None:
+        self.turns = _ranges_turns.Turns()
+        self.addCleanup(self.turns.end)
+        self.going, self.most, self.done = 0, 0, 0
+
+    def call(self) -> int:
+        self.going += 1
+        self.most = max(self.most, self.going)
+        self.done += 1
+        self.going -= 1
+        return self.done
+
+    def do(self, call: Any, seconds: float = LIMIT) -> Any:
+        return self.turns.do(call, _ranges_turns.Deadline(seconds))
+
+    def test_calls_are_made_one_at_a_time_and_answered(self) -> None:
+        threads = [threading.Thread(target=lambda: [self.do(self.call) for _ in range(200)]) for _ in range(4)]
+        for thread in threads:
+            thread.start()
+        for thread in threads:
+            thread.join(LIMIT)
+        self.assertEqual((self.most, self.done, self.going), (1, 800, 0))
+        self.assertRaises(ZeroDivisionError, self.do, lambda: 1 // 0)
+        self.assertEqual(self.do(self.call), 801)
+
+    def test_a_call_whose_turn_does_not_come_in_time_is_not_made(self) -> None:
+        begun, go_on = threading.Event(), threading.Event()
+        first = threading.Thread(target=self.do, args=(lambda: (begun.set(), go_on.wait(LIMIT)),))
+        first.start()
+        self.assertTrue(begun.wait(LIMIT))
+        with self.assertRaises(_ranges_errors.TimedOut) as caught:
+            self.do(self.call, 0.01)
+        self.assertEqual(caught.exception.outcome, "not committed")
+        go_on.set()
+        first.join(LIMIT)
+        self.assertEqual(self.do(self.call), 1)
+
+    def test_interrupts_at_random_moments_end_no_call(self) -> None:
+        def interrupt(*_: object) -> None:
+            raise KeyboardInterrupt
+
+        before, draw, interrupts = signal.signal(signal.SIGALRM, interrupt), random.Random(7), 0
+        self.addCleanup(signal.signal, signal.SIGALRM, before)
+        while interrupts < 300:
+            try:
+                signal.setitimer(signal.ITIMER_REAL, draw.uniform(0.00005, 0.0006))
+                while True:
+                    self.do(self.call)
+            except KeyboardInterrupt:
+                interrupts += 1
+        self.assertEqual((self.do(lambda: self.going), self.most), (0, 1))
 
 
 #: Opens the database of a range, and has it until it is told to end.

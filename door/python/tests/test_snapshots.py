@@ -54,7 +54,6 @@ class Snapshots(unittest.TestCase):
     def test_the_end_of_a_snapshot(self) -> None:
         with self.store.read() as table:
             self.assertEqual((table.is_open, repr(table)), (True, "<Snapshot of id, name, qty, open>"))
-            self.assertRaises(Misuse, self.store.close)
         with self.assertRaises(ZeroDivisionError), self.store.read() as other:
             1 / 0
         for over in (table, other):

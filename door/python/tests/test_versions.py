@@ -1,5 +1,6 @@
 """Versions: tables that are pinned, what each commit changed, who waits for one, and what a store counts and keeps."""
 import ctypes
+import gc
 import os
 import random
 import signal
@@ -102,17 +103,42 @@ class Pins(Case):
         txn.abort()
         self.assertEqual(self.store.sizes().open_transactions, 0)
 
-    def test_a_store_with_pins_is_not_closed(self) -> None:
-        pins = [self.store.pin(), self.store.pin()]
-        self.assertRaisesRegex(Misuse, "^the store has 2 pins: close them first$", self.store.close)
-        pins.pop().close()
-        self.assertRaisesRegex(Misuse, "^the store has 1 pin: close them first$", self.store.close)
-        table = pins[0].read()
-        del pins[:]  # one that is dropped is closed
-        self.assertRaisesRegex(Misuse, "^a transaction, a snapshot or a stream of the store is open$", self.store.close)
-        table.abort()
+    def test_pins_and_snapshots_end_with_their_store(self) -> None:
+        """As those that a notebook keeps; a transaction keeps it open, and them."""
+        pins = [self.store.pin() for _ in range(3)]
+        tables = [pins[0].read(), self.store.read(), pins[1].read()]
+        pins[1].close()
+        batch = next(tables[0].scan())
+        txn = pins[0].begin()
+        self.assertRaisesRegex(Misuse, "^a transaction or a stream of the store is open", self.store.close)
+        self.assertEqual([len(table) for table in tables], [2] * 3)  # all goes on
+        txn.abort()
         self.store.close()
+        self.store.close()
+        for pin in pins:
+            self.assertRaisesRegex(Misuse, "the pin is closed", pin.read)
+        for table in tables:
+            self.assertRaisesRegex(Misuse, "the transaction is over", table.get, 10)
+        self.assertEqual([it.is_open for it in (*pins, *tables)], [False] * 6)
+        self.assertEqual(len(batch.rows()), 2)  # it has memory of its own
         self.assertRaises(Misuse, self.store.pin)
+
+    def test_a_store_is_open_while_an_array_is_over_what_a_snapshot_lent(self) -> None:
+        table = self.store.read()
+        view = memoryview(table.pieces("qty")[0])
+        self.assertRaisesRegex(Misuse, "an array over what a snapshot lent", self.store.close)
+        self.assertFalse(table.is_open)
+        self.assertEqual(view.tolist(), [7, 2])
+        view.release()
+        del view
+        gc.collect()
+        self.store.close()
+
+    def test_what_is_over_is_not_noted_for_ever(self) -> None:
+        for _ in range(1000):
+            with self.store.read() as table:
+                len(table)
+        self.assertLess(len(self.store._handle._opened), 200)
 
     def test_a_store_that_an_exception_leaves_is_closed_with_its_last_pin(self) -> None:
         with self.assertRaises(ZeroDivisionError), narthexmace.open(TABLE) as store:

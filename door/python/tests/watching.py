@@ -13,7 +13,7 @@ _BEHIND = {"__len__", "__getitem__", "__iter__", "__contains__", "__enter__", "_
 
 #: The names of databases, which test_drawn_databases draws; test_drawn draws all others.
 DATABASES = {"Database", "DatabaseCounts", "Report", "Moment", "Work", "connect", "Locked", "Rot", "Gap", "Misfit",
-             "Unsure", "Failed", "TooLong"}  # fmt: skip
+             "Unsure", "Failed", "TooLong", "ReadOnlyDatabase", "NewerFormat"}  # fmt: skip
 
 
 def is_public(kind: type, name: str) -> bool:
