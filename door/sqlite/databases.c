@@ -33,6 +33,7 @@ static int opening_code(int code) {
   case PDT_MISFIT:
   case PDT_BAD_STORE:
   case PDT_NO_IMAGE: return SQLITE_CORRUPT_VTAB; /* at SQLITE_CORRUPT itself SQLite writes no table of its own any more */
+  case PDT_NEWER_FORMAT:
   case PDT_IO: return SQLITE_CANTOPEN;
   default: return SQLITE_ERROR;
   }

@@ -21,16 +21,18 @@ static const char *value_of(const char *word, const char *name) {
   return *word == '=' ? past_blanks(word + 1) : NULL;
 }
 
-/* A literal without its quotes, a doubled one of them single; a word in no quotes as it is. sqlite3_malloc's. */
-static char *unquoted(const char *word) {
-  char *out = sqlite3_mprintf("%s", word), quote = *word, *to = out;
-  if (!out || (quote != '\'' && quote != '"')) return out;
-  for (const char *from = word + 1; *from; from++) {
-    if (*from == quote && *++from != quote) break;
+/* Takes a literal without its quotes, a doubled one of them single, or a word in no quotes. Null where memory is refused. *out is
+   sqlite3_malloc's, and what is behind it is answered. */
+static const char *take_literal(const char *word, char **out) {
+  char quote = *word == '\'' || *word == '"' ? *word : 0, *to = *out = sqlite3_mprintf("%s", word);
+  const char *from = word + !!quote;
+  if (!to) return NULL;
+  for (; *from; from++) {
+    if (quote ? *from == quote && *++from != quote : !!strchr(BLANKS, *from)) break;
     *to++ = *from;
   }
   *to = 0;
-  return out;
+  return from;
 }
 
 /* A whole number in decimal digits, from 1 on. */
@@ -45,28 +47,33 @@ static bool number_of(const char *word, uint64_t *number) {
 
 static char *no_memory(void) { return sqlite3_mprintf("%s", pdt_text(PDT_NOMEM)); }
 
+/* Reads a literal, behind which nothing is. Null, or a sentence. */
+static char *read_literal(const char *word, char **out) {
+  const char *behind = take_literal(word, out);
+  if (!behind) return no_memory();
+  behind = past_blanks(behind);
+  return *behind ? sqlite3_mprintf("a comma is missing before %s, or quotes around what has a blank", behind) : NULL;
+}
+
 static char *read_path(const char *word, bool is_folder, declaration *out) {
   if (out->path) return sqlite3_mprintf("a table has one file or one store");
   out->is_folder = is_folder;
-  out->path = unquoted(word);
-  return out->path ? NULL : no_memory();
+  return read_literal(word, &out->path);
 }
 
 static char *read_name(const char *value, char **name) {
   if (*name) return sqlite3_mprintf("a table has one database, and one name there");
-  *name = unquoted(value);
-  return *name ? NULL : no_memory();
+  return read_literal(value, name);
 }
 
 static char *read_sync(const char *value, declaration *out) {
   static const char *const words[] = {[PDT_SYNC_FULL] = "full", [PDT_SYNC_NORMAL] = "normal", [PDT_SYNC_OFF] = "off"};
-  char *word = unquoted(value);
-  if (!word) return no_memory();
+  char *word = NULL, *error = read_literal(value, &word);
   out->sync = -1;
-  for (int sync = PDT_SYNC_FULL; sync <= PDT_SYNC_OFF; sync++)
+  for (int sync = PDT_SYNC_FULL; !error && sync <= PDT_SYNC_OFF; sync++)
     if (!sqlite3_stricmp(word, words[sync])) out->sync = sync;
   sqlite3_free(word);
-  return out->sync >= 0 ? NULL : sqlite3_mprintf("sync is full, normal or off, not %s", value);
+  return error || out->sync >= 0 ? error : sqlite3_mprintf("sync is full, normal or off, not %s", value);
 }
 
 /* Reads a word of the form name=value. False where it has none of the names. */

@@ -11,7 +11,8 @@ static void refuse(sqlite3_context *to, char *why) {
   sqlite3_free(why);
 }
 
-int touch(sqlite3 *db, const char *schema, const char *name) {
+/* Has SQLite make its object for a table, which it otherwise does when a statement first names it. One of its codes. */
+static int touch(sqlite3 *db, const char *schema, const char *name) {
   char *sql = schema ? sqlite3_mprintf("SELECT 1 FROM \"%w\".\"%w\" LIMIT 0", schema, name)
                      : sqlite3_mprintf("SELECT 1 FROM \"%w\" LIMIT 0", name);
   sqlite3_stmt *statement = NULL;
@@ -90,6 +91,7 @@ static void f_drop(sqlite3_context *to, int argc, sqlite3_value **argv) {
   (void)argc;
   const char *folder = (const char *)sqlite3_value_text(argv[0]), *name = (const char *)sqlite3_value_text(argv[1]);
   failure why;
+  sessions_let_go(sqlite3_user_data(to));
   if (!folder || !name) refuse(to, sqlite3_mprintf("pdt: name a folder and a table, as pdt_drop('DIR', 'NAME')"));
   else if (!stores_drop(folder, name, &why)) {
     refuse(to, why.text ? sqlite3_mprintf("pdt: %s", why.text) : NULL);

@@ -82,7 +82,18 @@ void key_copy(key *to, const key *from) {
   memcpy(to->texts, from->texts, from->bytes);
 }
 
-/* The key of the hidden column: its numbers and then its texts. */
+/* Whether the texts of a key have the bytes that its numbers say. */
+static bool has_its_bytes(const session *s, const key *k) {
+  size_t bytes = 0;
+  for (size_t column = 0; column < s->keys; column++) {
+    if (type_of(s, column) != PDT_TEXT) continue;
+    if (k->numbers[column] < 0 || k->numbers[column] > PDT_MAX_TEXT) return false;
+    bytes += (size_t)k->numbers[column];
+  }
+  return bytes == k->bytes;
+}
+
+/* The key of the hidden column: its numbers and then its texts. Any blob may be compared with it. */
 static bool key_of_blob(const session *s, sqlite3_value *value, key *k) {
   size_t bytes = (size_t)sqlite3_value_bytes(value), head = s->keys * sizeof *k->numbers;
   if (sqlite3_value_type(value) != SQLITE_BLOB || bytes < head || bytes - head > sizeof k->texts) return false;
@@ -91,7 +102,7 @@ static bool key_of_blob(const session *s, sqlite3_value *value, key *k) {
   memcpy(k->texts, blob + head, bytes - head);
   k->columns = s->keys;
   k->bytes = bytes - head;
-  return true;
+  return has_its_bytes(s, k);
 }
 
 /* The number of a key column's value that was read there. SQLite may hand a double back as a whole number. */

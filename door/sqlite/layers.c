@@ -133,7 +133,7 @@ static int filter_layers(sqlite3_vtab_cursor *base, int plan, const char *words,
   }
   if (s->doomed) return say(table, SQLITE_ABORT, "pdt: only ROLLBACK is left for %s", s->name);
   int code = pdt_layers(s->store, &c->layers[0], &c->layers[1]);
-  if (!code && s->view && s->view->txn && !view_is_stale(s)) code = pdt_own_layer(s->view->txn, &c->layers[2]);
+  if (!code && s->view && s->view->txn) code = pdt_own_layer(s->view->txn, &c->layers[2]);
   if (code) return fail(table, code);
   c->name = sqlite3_mprintf("%s", name);
   if (!c->name) return SQLITE_NOMEM;

@@ -15,13 +15,16 @@ typedef struct planning {
   bool exact; /* whether the bounds so far are just what they say for any value, so that SQLite needn't compare again */
 } planning;
 
+/* The column of one of SQLite's: the hidden one of a key of one column is that. */
+static int column_of(const session *s, int column) { return s->keys == 1 && column == (int)s->width ? 0 : column; }
+
 /* A comparison of a column that may be used, with one of two operators; -1 where there is none. One of texts goes by
    their bytes; an IN of texts is told as an = but is one only where lists are looked for. */
 static int find_constraint(const planning *p, size_t column, int op, int other, bool is_list) {
   bool is_text = has_texts(p->session, column);
   for (int i = 0; i < p->info->nConstraint; i++) {
     const struct sqlite3_index_constraint *c = &p->info->aConstraint[i];
-    if (!c->usable || c->iColumn != (int)column || (c->op != op && c->op != other)) continue;
+    if (!c->usable || column_of(p->session, c->iColumn) != (int)column || (c->op != op && c->op != other)) continue;
     if (is_text && sqlite3_stricmp(sqlite3_vtab_collation(p->info, i), "BINARY")) continue;
     if (is_list == (is_text && sqlite3_vtab_in(p->info, i, -1))) return i;
   }
@@ -68,7 +71,7 @@ static bool is_key_order(const planning *p, size_t fixed, bool *down) {
   size_t next = fixed;
   bool known = false;
   for (int i = 0; i < p->info->nOrderBy && (next < p->session->keys || is_real(p->session, next - 1)); i++) {
-    int column = p->info->aOrderBy[i].iColumn;
+    int column = column_of(p->session, p->info->aOrderBy[i].iColumn);
     bool desc = p->info->aOrderBy[i].desc;
     if (column >= 0 && (size_t)column < fixed) continue;
     if (column != (int)next || (known && desc != *down) || (next && is_real(p->session, next - 1))) return false;
@@ -151,11 +154,49 @@ static void put_cost(planning *p, size_t equal, int bits) {
   p->info->estimatedCost = 20 + rows * columns;
 }
 
+/* Whether several columns are asked for: each has a bit, and all from the 64th on have the last one. */
+static bool uses_several(const sqlite3_index_info *info) { return info->colUsed & (info->colUsed - 1); }
+
+/* Hands over a plan, with what EXPLAIN QUERY PLAN shows. */
+static int put_plan(planning *p, int plan) {
+  bool is_one = plan & BLOB || (size_t)(plan & EQUAL) == p->session->keys;
+  p->info->idxNum = plan | (is_one && uses_several(p->info) ? ROW : 0);
+  int code = sqlite3_str_errcode(p->words);
+  p->info->idxStr = sqlite3_str_finish(p->words);
+  p->info->needToFreeIdxStr = 1;
+  return code;
+}
+
+/* A comparison with one value of the hidden column of a key of several columns; -1 where there is none. */
+static int find_hidden(const planning *p) {
+  for (int i = 0; i < p->info->nConstraint && p->session->keys > 1; i++) {
+    const struct sqlite3_index_constraint *c = &p->info->aConstraint[i];
+    bool is_equal = c->op == SQLITE_INDEX_CONSTRAINT_EQ || c->op == SQLITE_INDEX_CONSTRAINT_IS;
+    if (c->usable && c->iColumn == (int)p->session->width && is_equal) return i;
+  }
+  return -1;
+}
+
+/* Whether there is such a one: then it is the plan. */
+static bool takes_hidden(planning *p) {
+  int i = find_hidden(p);
+  if (i < 0) return false;
+  p->info->aConstraintUsage[i].argvIndex = 1;
+  p->info->aConstraintUsage[i].omit = 1;
+  p->info->idxFlags = SQLITE_INDEX_SCAN_UNIQUE;
+  p->info->orderByConsumed = 1;
+  p->info->estimatedRows = 1;
+  p->info->estimatedCost = 20;
+  sqlite3_str_appendall(p->words, "_rowid_=?");
+  return true;
+}
+
 int x_best_index(sqlite3_vtab *base, sqlite3_index_info *info) {
   planning p = {session_of(base), info, sqlite3_str_new(NULL), 0, true};
+  if (takes_hidden(&p)) return put_plan(&p, BLOB);
   size_t equal = 0, fixed = 0; /* fixed: those of the equal columns that are exact */
   for (; equal < p.session->keys; equal++) {
-    int i = find_constraint(&p, equal, SQLITE_INDEX_CONSTRAINT_EQ, SQLITE_INDEX_CONSTRAINT_EQ, false);
+    int i = find_constraint(&p, equal, SQLITE_INDEX_CONSTRAINT_EQ, SQLITE_INDEX_CONSTRAINT_IS, false);
     p.exact = p.exact && !has_texts(p.session, equal) && !is_real(p.session, equal);
     if (i < 0) break;
     take_constraint(&p, i, equal, "=");
@@ -171,11 +212,7 @@ int x_best_index(sqlite3_vtab *base, sqlite3_index_info *info) {
   }
   learn(p.session, equal + !!(bits & LIST));
   put_cost(&p, equal, bits);
-  info->idxNum = (int)equal | bits;
-  int code = sqlite3_str_errcode(p.words);
-  info->idxStr = sqlite3_str_finish(p.words);
-  info->needToFreeIdxStr = 1;
-  return code;
+  return put_plan(&p, (int)equal | bits);
 }
 
 /* ---- ranges */
@@ -294,13 +331,25 @@ bool stem_of(const session *s, key *stem, int plan, sqlite3_value **values) {
   return true;
 }
 
+/* The range of the one key that a value of the hidden column is. */
+static void range_of_blob(const session *s, range *r, sqlite3_value *value) {
+  r->past_low = false;
+  r->past_high = true;
+  r->empty = !key_of_value(s, value, &r->low);
+  if (!r->empty) key_copy(&r->high, &r->low);
+}
+
 void range_of(const session *s, range *r, int plan, sqlite3_value **values) {
+  if (plan & BLOB) {
+    range_of_blob(s, r, values[0]);
+    return;
+  }
   int at = 0, equal = plan & EQUAL, count = equal + !!(plan & LOW) + !!(plan & HIGH);
   key_start(&r->low);
   key_start(&r->high);
   r->past_low = false;
   r->past_high = true;
-  r->empty = false; /* nothing compares with NULL */
+  r->empty = false; /* nothing compares with NULL, and no key IS one */
   for (int i = 0; i < count; i++) r->empty = r->empty || sqlite3_value_type(values[i]) == SQLITE_NULL;
   while (at < equal && put_equal(s, r, values[at])) at++;
   if (at == equal && count > equal) {

@@ -100,7 +100,8 @@ int cursors_go_back(session *s, size_t level) {
 
 int x_open(sqlite3_vtab *base, sqlite3_vtab_cursor **out) {
   session *s = session_of(base);
-  int code = view_enter(base, false);
+  int code = listen_at_first_use(base);
+  if (!code) code = view_enter(base, false);
   if (code) return code;
   cursor *c = sqlite3_malloc((int)(sizeof *c + s->width * sizeof *c->batches));
   if (!c) return SQLITE_NOMEM;
@@ -127,12 +128,13 @@ int x_close(sqlite3_vtab_cursor *base) {
     sqlite3_free(c->batches[column].ends);
     sqlite3_free(c->batches[column].texts);
   }
+  sqlite3_free(c->row);
   list_free(c->ranges);
   sqlite3_free(c);
   if (v != s->view && !v->cursors) {
     view_free(s, v);
     session_tidy(s);
-  } else if (view_is_stale(s)) view_leave(s);
+  } else view_is_read(s);
   return SQLITE_OK;
 }
 
@@ -162,6 +164,7 @@ static int positions_of(const session *s, view *v, const range *r, uint64_t *low
 
 /* Takes a range's positions; the cursor is over where there is no row. One of the door's codes. */
 static int range_take(const session *s, cursor *c, const range *r) {
+  c->row_edits = 0;
   c->bounded = true;
   c->past = c->down ? !r->past_low : r->past_high;
   int code = positions_of(s, c->view, r, &c->low, &c->high);
@@ -196,7 +199,7 @@ int x_filter(sqlite3_vtab_cursor *base, int plan, const char *words, int argc, s
   if (!c->view->txn) return transaction_is_over(base->pVtab);
   c->down = plan & DOWN;
   c->over = true;
-  c->gone = c->bounded = false;
+  c->gone = c->bounded = c->is_row = false;
   c->low = c->high = 0;
   for (size_t column = 0; column < s->width; column++) c->batches[column].want = LEAST_BATCH;
   int code = ranges_make(s, c, plan, argv);
@@ -204,7 +207,8 @@ int x_filter(sqlite3_vtab_cursor *base, int plan, const char *words, int argc, s
   if (c->ranges) return fail(base->pVtab, ranges_take(s, c));
   range_of(s, &r, plan, argv);
   if (r.empty) return SQLITE_OK;
-  if (plan & (EQUAL | LOW | HIGH)) return fail(base->pVtab, range_take(s, c, &r));
+  c->is_row = plan & ROW && is_one_key(s, &r);
+  if (plan & (EQUAL | LOW | HIGH | BLOB)) return fail(base->pVtab, range_take(s, c, &r));
   code = pdt_rows(c->view->txn, &c->high);
   c->over = code || !c->high;
   return fail(base->pVtab, code);
@@ -274,9 +278,30 @@ static int batch_load(cursor *c, size_t column, batch **out) {
   }
 }
 
+/* Reads the current row whole, where it isn't there yet, or a write has been since. One of the door's codes. */
+static int row_load(cursor *c) {
+  const session *s = session_of(c->base.pVtab);
+  size_t head = s->width * sizeof *c->row;
+  if (!c->row) c->row = sqlite3_malloc64(head + s->text_room + 1);
+  if (!c->row) return PDT_NOMEM;
+  if (c->row_edits == c->view->edits + 1) return PDT_OK;
+  int code = pdt_row_at(c->view->txn, cursor_position(c), c->row, (char *)c->row + head, s->text_room, NULL);
+  if (!code) c->row_edits = c->view->edits + 1;
+  return code;
+}
+
+/* The text of a column of the row. */
+static const char *row_text(const cursor *c, size_t column) {
+  const session *s = session_of(c->base.pVtab);
+  const char *text = (const char *)(c->row + s->width);
+  for (size_t before = 0; before < column; before++)
+    if (type_of(s, before) == PDT_TEXT) text += c->row[before];
+  return text;
+}
+
 static const char *batch_text(const batch *b, size_t i) { return b->texts + b->ends[i] - b->numbers[i]; }
 
-/* The hidden column: the key as one blob. */
+/* The hidden column of a key of several columns: the key as one blob. */
 static int put_key(cursor *c, sqlite3_context *to) {
   const session *s = session_of(c->base.pVtab);
   uint64_t current = cursor_position(c);
@@ -312,6 +337,15 @@ static int put_number(cursor *c, sqlite3_context *to, size_t column, int64_t num
              m->kind == REALS ? "a NaN in the key" : "no date of the years 0000 to 9999");
 }
 
+/* A cell of the one row of a range. */
+static int put_of_row(cursor *c, sqlite3_context *to, size_t column) {
+  int code = row_load(c);
+  if (code) return fail(c->base.pVtab, code);
+  if (type_of(session_of(c->base.pVtab), column) != PDT_TEXT) return put_number(c, to, column, c->row[column]);
+  sqlite3_result_text(to, row_text(c, column), (int)c->row[column], SQLITE_TRANSIENT);
+  return SQLITE_OK;
+}
+
 /* A cell of the current row. Nothing where an UPDATE leaves it as it is, and NULL where the row was deleted
    meanwhile. */
 int x_column(sqlite3_vtab_cursor *base, sqlite3_context *to, int column) {
@@ -320,7 +354,9 @@ int x_column(sqlite3_vtab_cursor *base, sqlite3_context *to, int column) {
   if (s->doomed) return refuse_doomed(base->pVtab, s);
   if (c->gone || sqlite3_vtab_nochange(to)) return SQLITE_OK;
   if (!c->view->txn) return transaction_is_over(base->pVtab);
-  if ((size_t)column == s->width) return fail(base->pVtab, put_key(c, to));
+  if ((size_t)column == s->width && s->keys > 1) return fail(base->pVtab, put_key(c, to));
+  if ((size_t)column == s->width) column = 0;
+  if (c->is_row) return put_of_row(c, to, (size_t)column);
   uint64_t current = cursor_position(c);
   batch *b = &c->batches[column];
   if (!batch_has(b, c->view, current)) {

@@ -2,12 +2,15 @@
 #include "stores.h"
 
 #include <errno.h>
+#include <fcntl.h>
 #include <limits.h>
 #include <pthread.h>
 #include <sqlite3ext.h>
 #include <stdio.h>
 #include <stdlib.h>
 #include <string.h>
+#include <sys/stat.h>
+#include <unistd.h>
 SQLITE_EXTENSION_INIT3
 
 struct shared {
@@ -26,12 +29,24 @@ static shared *all;
 
 /* ---- opening */
 
+/* Opens a regular file, and waits for no other. One of the library's codes, or NOT_REGULAR. */
+static int open_regular(const char *path, FILE **out) {
+  struct stat about;
+  int file = open(path, O_RDONLY | O_NONBLOCK | O_CLOEXEC);
+  if (file < 0) return PDT_IO;
+  int code = fstat(file, &about) ? PDT_IO : S_ISREG(about.st_mode) ? PDT_OK : NOT_REGULAR;
+  *out = code ? NULL : fdopen(file, "rb");
+  if (!code && !*out) code = PDT_NOMEM;
+  if (code) close(file);
+  return code;
+}
+
 int read_file(const char *path, char **bytes, size_t *len) {
-  FILE *file = fopen(path, "rb");
-  if (!file) return PDT_IO;
+  FILE *file;
+  int code = open_regular(path, &file);
+  if (code) return code;
   size_t room = 0, count = 0;
   char *into = NULL;
-  int code = PDT_OK;
   for (;;) {
     if (count == room) {
       room = room ? 2 * room : 1 << 16;
@@ -71,7 +86,8 @@ static int open_store(const declaration *declared, pdt_store **store) {
 void *failure_of(failure *why, int code, const char *place, int library_code) {
   const char *text = pdt_text(library_code);
   why->code = code;
-  if (library_code == PDT_IO) why->text = sqlite3_mprintf("%s: %s: %s", place, text, strerror(errno));
+  if (library_code == NOT_REGULAR) why->text = sqlite3_mprintf("%s is no regular file", place);
+  else if (library_code == PDT_IO) why->text = sqlite3_mprintf("%s: %s: %s", place, text, strerror(errno));
   else why->text = sqlite3_mprintf("%s: %s", place, text);
   return NULL;
 }

@@ -55,9 +55,12 @@ database *stores_database(const shared *entry);
 /* Drops a table of the database in a folder, which no connection of the process has. False, and a failure, where it can't. */
 bool stores_drop(const char *folder, const char *table, failure *why);
 
+enum { NOT_REGULAR = -1 }; /* beside the library's codes: a path is that of a folder, a device or a pipe */
+
 /* A failure with one of the library's codes for a place, whose cause errno has, where it is a file's. Null. */
 void *failure_of(failure *why, int code, const char *place, int library_code);
-/* Reads a file whole into memory, which is the caller's to free. One of the library's codes. */
+/* Reads a regular file whole into memory, which is the caller's to free. One of the library's codes, or NOT_REGULAR: a device may
+   have no end, and a pipe no writer. */
 int read_file(const char *path, char **bytes, size_t *len);
 
 /* ---- numbers.c */

@@ -18,8 +18,11 @@ typedef struct view view;
 struct connection {
   sqlite3 *db;
   session *sessions;
-  uint64_t statements; /* how many have begun, as the trace callback was told */
+  uint64_t statements; /* how many have begun, as the trace callback saw, with the programs of triggers */
+  uint64_t current;    /* the number of the last one that none other has begun */
+  bool has_inner;      /* whether programs or statements have begun inside of that */
   size_t levels;       /* of the open transaction: one for itself, and one for each savepoint, as SQLite has told */
+  bool listens;        /* whether SQLite reports each savepoint of the open transaction */
 };
 
 /* A transaction over all tables of a database, of which a connection's views see one moment. It ends with the last of
@@ -35,14 +38,19 @@ struct view {
   pdt_txn *txn;   /* null once its writes were committed or given up */
   work *work;     /* that has it; null of a store alone, and where txn is null */
   view *beside;   /* the next one in the work */
+  uint64_t begun; /* the connection's current statement then */
+  bool is_lost;   /* whether the end of its transaction may have been missed */
   uint64_t edits; /* how many writes it has seen: cells that were read before one are stale */
   cursor *cursors;
 };
+
+#define UNTOLD SIZE_MAX /* above each level that there is */
 
 struct session {
   connection *owner;
   session *next;
   char *schema, *name, *place; /* the place as it was declared */
+  bool is_attached;            /* whether the schema is one that is attached */
   shared *shared;              /* null once it was let go, and so are the next two */
   database *in;                /* null of a store alone too */
   pdt_store *store;
@@ -53,7 +61,8 @@ struct session {
   bool kept;       /* whether the connection has it; if not, it goes with the last of these */
 
   /* How many levels were open when its table was created or dropped in the open transaction, and 0 where it wasn't.
-     What was done above the level of a savepoint is undone with it. */
+     What was done above the level of a savepoint is undone with it. A table is made at the level UNTOLD where that isn't known
+     yet, since SQLite has reported no savepoint. */
   size_t created, dropped;
 
   uint64_t rows, sampled;    /* how many there were when last asked, and when last sampled */
@@ -78,6 +87,7 @@ typedef struct table {
   sqlite3_vtab base;
   connection *owner;
   session *session;
+  bool is_maker; /* whether xCreate has made it */
 } table;
 
 static inline session *session_of(sqlite3_vtab *base) { return ((table *)base)->session; }
@@ -137,8 +147,8 @@ void view_unwrite(session *s);
 /* Lets the session's view go. Cursors that are in it read on, unless it has writes, which are no more to be seen. */
 void view_leave(session *s);
 void view_free(session *s, view *v);
-/* Whether the view is of a transaction that has ended, or of a statement outside one. */
-bool view_is_stale(const session *s);
+/* After a cursor was closed: lets the view go, where it is of a transaction that has ended, or of a statement outside one that is over. */
+void view_is_read(session *s);
 /* The position of a key, or the one past its row. One of the door's codes. */
 int view_position(view *v, const key *k, bool past, uint64_t *position);
 
@@ -150,6 +160,8 @@ void marks_release(session *s, size_t level);
    codes: where it is another than PDT_OK, only ROLLBACK is left. */
 int marks_back_to(session *s, size_t level);
 
+/* Sees each statement begin, in the place of whoever saw it before. */
+void watch(connection *c);
 /* Told of each statement that begins: where no transaction is open, what an earlier one read is let go. */
 int statement_begins(unsigned what, void *context, void *statement, void *text);
 /* A transaction of the session is over. */
@@ -165,6 +177,9 @@ session *session_open(connection *c, const char *schema, const char *name, const
 void session_detach(session *s);
 /* Frees what a session that was taken from its connection needs no more. */
 void session_tidy(session *s);
+/* Lets databases' tables go that SQLite knows no more, since another connection has dropped them. No trace callback calls it, since it
+   may have SQLite read a schema. */
+void sessions_let_go(connection *c);
 
 /* ---- works.c */
 
@@ -191,9 +206,11 @@ int x_rollback_to(sqlite3_vtab *base, int savepoint);
 int write_starts(sqlite3_vtab *base);
 /* The session, if there is one, whose writes the open transaction would commit. */
 session *writer_of(const connection *c);
-/* From now on SQLite tells the connection of each savepoint, and of the end of the transaction. One of SQLite's
-   codes. */
+/* From now on SQLite reports each savepoint to the connection, and the end of the transaction. One of SQLite's codes. It writes the
+   main database: SQLite may read all schemas anew, so that only a table of main may be in the making. */
 int listen_to_savepoints(connection *c);
+/* Does so at the first use of a table that was made without it. One of SQLite's codes. */
+int listen_at_first_use(sqlite3_vtab *base);
 /* The table pdt_savepoints, through which it tells; its context is the connection. */
 extern const sqlite3_module savepoints_module;
 
@@ -206,7 +223,7 @@ void key_put_text(key *k, const void *text, size_t len);
 void key_fill(const session *s, key *k, bool greatest);
 /* The key of a row, whose numbers and texts begin with those of the key. */
 void key_of_row(const session *s, const int64_t *numbers, const char *texts, key *k);
-/* The key by which SQLite names a row that it has read: the key column itself, or the hidden one. */
+/* The key by which SQLite names a row that it has read: the key column itself, or the hidden one. False where it is none of a row. */
 bool key_of_value(const session *s, sqlite3_value *value, key *k);
 /* The order of two whole keys: below zero, zero or above. */
 int key_compare(const session *s, const key *a, const key *b);
@@ -227,8 +244,9 @@ bool is_cell_text(const void *text, size_t len);
 /* ---- plan.c */
 
 /* A plan's number: how many leading key columns have one value, what bounds the next one, and the direction. Where
-   that is a list of texts, its value is behind those of the columns. */
-enum { EQUAL = 7, LOW = 8, LOW_PAST = 16, HIGH = 32, HIGH_PAST = 64, DOWN = 128, LIST = 256 };
+   that is a list of texts, its value is behind those of the columns. Of BLOB the value is that of the hidden column. Of ROW
+   one row at most is read, and several columns of it. */
+enum { EQUAL = 7, LOW = 8, LOW_PAST = 16, HIGH = 32, HIGH_PAST = 64, DOWN = 128, LIST = 256, BLOB = 512, ROW = 1024 };
 
 /* What the values of a plan leave of the keys: those from low to high, both whole. Without the row of low where that is
    past it, and with the row of high where that is. */
@@ -279,6 +297,9 @@ struct cursor {
   bool gone;    /* whether the current row was deleted: the next one is current without a step */
   bool bounded; /* whether there is a bound; else it goes on to the end of the table */
   bool past;    /* whether the bound's own row is in the range */
+  bool is_row;  /* whether the range is one row, which is read whole */
+  int64_t *row; /* that one, with its texts behind it; null before it was asked for */
+  uint64_t row_edits; /* one more than the view's when it was read, and 0 before that */
   list *ranges; /* those that come behind this one; null where there is one alone */
   key bound;    /* the key at which the range ends, in the cursor's direction */
   key stand;    /* the key of the row that is gone */
@@ -313,8 +334,6 @@ int x_update(sqlite3_vtab *base, int argc, sqlite3_value **argv, sqlite3_int64 *
 /* The session of the one table of a name, before which a schema's may be, as in main.t; null, and a sentence that
    says why, sqlite3_malloc's, where there is none or several. */
 session *session_named(connection *c, const char *name, char **why);
-/* Has SQLite make its object for a table, which it otherwise does when a statement first names it. One of its codes. */
-int touch(sqlite3 *db, const char *schema, const char *name);
 /* pdt_fold('t'), pdt_cut('t'), pdt_checkpoint('t', DIR), pdt_drop(DIR, NAME). One of SQLite's codes. */
 int functions_make(connection *c);
 

@@ -5,11 +5,17 @@
 
 SQLITE_EXTENSION_INIT3
 
-/* What a write is refused for is a constraint of its statement, with no extended code: SQLite does what the
-   statement's OR says where it is just this one. At SQLITE_FULL it would roll the whole transaction back. */
+/* What a write is refused for is a constraint of its statement: SQLite does what the statement's OR says. But OR IGNORE passes over
+   a key that is there and a NULL alone, as in SQLite's own STRICT tables: what else is refused has another code there. */
+static int constraint_or(const session *s, int code) {
+  return sqlite3_vtab_on_conflict(s->owner->db) == SQLITE_IGNORE ? code : SQLITE_CONSTRAINT;
+}
+
+/* At SQLITE_FULL SQLite would roll the whole transaction back. */
 static int refuse(sqlite3_vtab *base, int code) {
-  bool is_constraint = code == PDT_DUPLICATE || code == PDT_FULL;
-  return is_constraint ? say(base, SQLITE_CONSTRAINT, "pdt: %s", pdt_text(code)) : fail(base, code);
+  if (code != PDT_DUPLICATE && code != PDT_FULL) return fail(base, code);
+  int is = code == PDT_DUPLICATE ? SQLITE_CONSTRAINT : constraint_or(session_of(base), SQLITE_ERROR);
+  return say(base, is, "pdt: %s", pdt_text(code));
 }
 
 static int mismatch(sqlite3_vtab *base, size_t column, sqlite3_value *value) {
@@ -20,7 +26,8 @@ static int mismatch(sqlite3_vtab *base, size_t column, sqlite3_value *value) {
   const meaning *m = &s->means[column];
   int type = sqlite3_value_type(value);
   const char *what = is_shown_as_text(m) && type == SQLITE_TEXT ? "another text" : found[type];
-  return say(base, SQLITE_CONSTRAINT, "pdt: column %s takes %s%s, not %s", pdt_column_name(s->store, column),
+  int code = type == SQLITE_NULL ? SQLITE_CONSTRAINT : constraint_or(s, SQLITE_MISMATCH);
+  return say(base, code, "pdt: column %s takes %s%s, not %s", pdt_column_name(s->store, column),
              type_of(s, column) == PDT_INT ? kinds[m->kind] : wanted[type_of(s, column)], m->has_null ? " or NULL" : "", what);
 }
 
@@ -108,7 +115,7 @@ static int insert(sqlite3_vtab *base, sqlite3_value **values) {
     int code = put_cell(base, column, values[column], s->row, s->row_texts, &bytes);
     if (code) return code;
   }
-  if (s->keys > 1 && sqlite3_value_type(values[s->width]) != SQLITE_NULL) return hidden(base);
+  if (sqlite3_value_type(values[s->width]) != SQLITE_NULL) return hidden(base);
   int code = insert_row(s, bytes);
   if (code != PDT_DUPLICATE || sqlite3_vtab_on_conflict(s->owner->db) != SQLITE_REPLACE) return refuse(base, code);
   key k;
@@ -212,7 +219,7 @@ static int update(sqlite3_vtab *base, const key *from, sqlite3_value **values) {
   session *s = session_of(base);
   key to;
   size_t bytes = 0;
-  if (s->keys > 1 && !sqlite3_value_nochange(values[s->width]) &&
+  if (!sqlite3_value_nochange(values[s->width]) &&
       (!key_of_value(s, values[s->width], &to) || key_compare(s, from, &to)))
     return hidden(base);
   if (keyset_has(s->replaced, from))
@@ -249,18 +256,29 @@ static int refuse_second(sqlite3_vtab *base, const session *writer) {
              is_alone ? "one table of pdt" : "tables of one database of pdt, or one table alone", writer->name);
 }
 
+/* What last_insert_rowid() is after an INSERT: the key, where that is one number as of an INTEGER PRIMARY KEY; else what it was, as
+   after one into a table WITHOUT ROWID. */
+static sqlite3_int64 rowid_of_insert(const session *s) {
+  bool is_number = s->keys == 1 && type_of(s, 0) == PDT_INT && s->means[0].kind == NUMBERS;
+  return is_number ? s->row[0] : sqlite3_last_insert_rowid(s->owner->db);
+}
+
 /* A row is written: deleted where there is one value, inserted where the first is NULL, and changed otherwise. One
    that the same statement has taken away already is passed over, as in SQLite's own tables. */
 int x_update(sqlite3_vtab *base, int argc, sqlite3_value **argv, sqlite3_int64 *rowid) {
-  (void)rowid;
   session *s = session_of(base);
   key k;
   if (s->doomed) return refuse_doomed(base, s);
   const session *writer = writer_of(s->owner);
   if (writer && writer != s && (!s->in || s->in != writer->in)) return refuse_second(base, writer);
-  int code = write_starts(base);
+  int code = listen_at_first_use(base);
+  if (!code) code = write_starts(base);
   if (code) return code;
-  if (argc > 1 && sqlite3_value_type(argv[0]) == SQLITE_NULL) return insert(base, argv + 2);
+  if (argc > 1 && sqlite3_value_type(argv[0]) == SQLITE_NULL) {
+    code = insert(base, argv + 2);
+    *rowid = rowid_of_insert(s);
+    return code;
+  }
   if (!key_of_value(s, argv[0], &k)) return fail(base, PDT_SHAPE);
   code = settle_zero(base, &k);
   if (code) return code;

@@ -8,7 +8,7 @@ import signal
 import threading
 import traceback
 
-from room import ABORT, BUSY, BUSY_SNAPSHOT, CONSTRAINT, ERROR, IN_CONFLICT, done, refused, run, shows
+from room import ABORT, BLIND, BUSY, BUSY_SNAPSHOT, CONSTRAINT, ERROR, IN_CONFLICT, done, refused, run, shows
 from sql import Connection, Error
 
 LOCKED, IOERR, CANTOPEN, CORRUPT_VTAB = 6, 10, 14, 267
@@ -121,7 +121,7 @@ def columns_are_declared(room):
     words = """ , "a ""b" int PRIMARY  KEY NOT NULL, [c d] TEXT NOT NULL,\n`e` Bool, limit integer, table TEXT"""
     done(c, f"CREATE VIRTUAL TABLE t USING pdt ( database = '{folder}' , table = \"it's\"{words}, recent=7)")
     found = [(row[1], row[2], row[3], row[5]) for row in c.run("PRAGMA table_info(t)")]
-    assert found == [('a "b', "INTEGER", 1, 1), ("c d", "TEXT", 1, 0), ("e", "BOOLEAN", 1, 0), ("limit", "INTEGER", 1, 0),
+    assert found == [('a "b', "INT", 1, 1), ("c d", "TEXT", 1, 0), ("e", "BOOLEAN", 1, 0), ("limit", "INTEGER", 1, 0),
                      ("table", "TEXT", 1, 0)], found  # fmt: skip
     done(c, "INSERT INTO t VALUES (1, 'x', 1, 2, 'y')")
     refused(c, "INSERT INTO t VALUES (2, 'x', 7, 2, 'y')", CONSTRAINT, "pdt: column e takes 0 or 1, not an integer")
@@ -145,6 +145,7 @@ def declarations_are_refused(room):
     in_new, columns = f"database='{folder}/new', table='x'", "id INTEGER PRIMARY KEY"
     many = ", ".join(f"c{i} INTEGER" for i in range(32))
     types = "is INTEGER, REAL, DATE, TIMESTAMP, TEXT or BOOLEAN, not"
+    comma, quotes = "a comma is missing before", ", or quotes around what has a blank"
     for words, text in [
         (f"database='{folder}/new'", "name a table of the database, as pdt(database='DIR', table='NAME')"),
         (f"database='{folder}/new', database='x'", "a table has one database, and one name there"),
@@ -171,6 +172,18 @@ def declarations_are_refused(room):
         (f'{in_new}, {columns}, "a:b" TEXT', "a column's name has 1 to 64 bytes and no colon"),
         (f'{in_new}, {columns}, {"n" * 65} TEXT', "a column's name has 1 to 64 bytes and no colon"),
         (f"{in_new}, {columns}, colour", "no such word: colour"),
+        (f"{in_new} qty INTEGER, {columns}", f"{comma} qty INTEGER{quotes}"),
+        (f"{in_new[:-1]}''y' || 'z', {columns}", f"{comma} || 'z'{quotes}"),
+        (f"database='{folder}/new' garbage, table='x', {columns}", f"{comma} garbage{quotes}"),
+        (f"database={folder}/new table='x', {columns}", f"{comma} table='x'{quotes}"),
+        (f"{in_new}, sync='off' q INTEGER, {columns}", f"{comma} q INTEGER{quotes}"),
+        (f"{in_new}, sync=off q INTEGER, {columns}", f"{comma} q INTEGER{quotes}"),
+        (f"store='{folder}' recent=7", f"{comma} recent=7{quotes}"),
+        (f"{in_new}, {columns} q INTEGER", "column id is NOT NULL and may be PRIMARY KEY, and not q INTEGER"),
+        (f"{in_new}, {columns}, recent=7 limit=8", "recent is a number from 1 on, not 7 limit=8"),
+        (f"{in_new}, {columns}, conflicts=row limit=8", "conflicts is row or column, not row limit=8"),
+        (f"{in_new}, a TEXT, PRIMARY KEY (a) b TEXT", "a key is declared as PRIMARY KEY (a, b), not as PRIMARY KEY (a) b TEXT"),
+        (f"'{folder}/t.csv' recent=7", f"column {folder}/t.csv is INTEGER, REAL, DATE, TIMESTAMP, TEXT or BOOLEAN, not recent"),
         (f"'{folder}/t.csv', {columns}",
          "a table's name, sync and columns are those of a database, as pdt(database='DIR', table='NAME')"),
         (f"store='{folder}', sync=off",
@@ -197,6 +210,7 @@ def declarations_are_refused(room):
         (f"database='{folder}/shop', table='', {columns}",
          "a table's name has 1 to 64 bytes of UTF-8, and no control characters"),
         (f"'{bad}', database='{folder}/shop', table='x'", f"{bad}: record 3, column 0: "),
+        (f"'/dev/zero', database='{folder}/shop', table='x'", "/dev/zero is no regular file"),
         (f"'{wide}', database='{folder}/shop', table='x'", f"{wide}: duplicate column name: ID"),
         (f"'{folder}/none.csv', database='{folder}/shop', table='x'",
          f"{folder}/none.csv: a file failed: No such file or directory"),
@@ -264,10 +278,122 @@ def reads_are_of_one_moment(room):
     shows(a, "SELECT count(*) FROM items", (2,))
     done(b, "DELETE FROM sales WHERE item = 10")
     done(a, "COMMIT", "BEGIN")
-    blind = "pdt: its trace callback was replaced, so that it sees no transaction end: load pdt once more"
-    refused(a, "SELECT count(*) FROM sales", ERROR, blind)
+    refused(a, "SELECT count(*) FROM sales", ERROR, BLIND)
+    refused(a, "SELECT count(*) FROM items", ERROR, BLIND)
     done(a, "ROLLBACK")
     shows(a, "SELECT count(*) FROM sales", (1,))
+
+
+def a_statement_with_triggers_is_of_one_moment(room):
+    """Another connection commits between the programs of its triggers, and between its own reads."""
+    a, b, seen = filled(room), shop(room), []
+    count = "SELECT count(*) FROM items"
+    a.function("commits", lambda: b.run("INSERT INTO items SELECT max(id) + 1, '', 0, 0 FROM items"))
+    a.function("reads", lambda: seen.extend(a.run(count)))
+    done(a, "CREATE TABLE plain (k)", "CREATE TABLE log (items, sales)", "CREATE TRIGGER on_plain AFTER INSERT ON plain BEGIN "
+            f"INSERT INTO log SELECT ({count}), (SELECT count(*) FROM sales); SELECT commits(); SELECT reads(); END")  # fmt: skip
+    done(a, "INSERT INTO plain VALUES (1), (2), (3)")
+    shows(a, f"-- of a later moment, since a comment is no program of a trigger\n{count}", (6,))
+    shows(a, "SELECT * FROM log", (3, 2), (3, 2), (3, 2))
+    assert seen == [(3,), (3,), (3,)], seen
+    shows(a, f"SELECT ({count}), commits(), ({count}), reads(), ({count}) UNION ALL SELECT ({count}), 0, 0, 0, ({count})",
+          (6, None, 6, None, 6), (6, 0, 0, 0, 6))  # fmt: skip
+    assert seen[3:] == [(6,)], seen
+    shows(a, count, (7,))
+    # one that writes a table in each program sees its own writes, and another's commit after it
+    done(a, "CREATE TRIGGER on_log AFTER INSERT ON log BEGIN INSERT INTO sales VALUES (new.items, 'x', (SELECT count(*) FROM items)); END")
+    done(a, "DELETE FROM sales", "DELETE FROM log", "DROP TRIGGER on_plain", "INSERT INTO log VALUES (1, commits()), (2, commits())")
+    shows(a, "SELECT item, qty FROM sales", (1, 7), (2, 7))
+    shows(a, count, (9,))
+    done(a, "BEGIN", "INSERT INTO log VALUES (3, commits()), (4, commits())", "COMMIT")
+    shows(a, "SELECT item, qty FROM sales WHERE item > 2", (3, 9), (4, 9))
+
+
+def skewed(room, name, words, begin, last):
+    """Two connections on one file read what two rows have, and then each takes 15. The code that the second one ends with, and the rows."""
+    path = room.folder / f"{name}.db"
+    a, b = room.connect(path, tables=False), room.connect(path, tables=False)
+    shows(a, "PRAGMA journal_mode = WAL", ("wal",))
+    in_shop = f"database='{room.folder}/shop', table='{name}'{words}, id INTEGER PRIMARY KEY, a INTEGER, b INTEGER"
+    done(a, "CREATE TABLE t (id INTEGER PRIMARY KEY, a, b)" if "own" in name else f"CREATE VIRTUAL TABLE t USING pdt({in_shop})")
+    done(a, "INSERT INTO t VALUES (1, 10, 10), (2, 10, 10)")
+    a.run(begin), shows(a, "SELECT sum(a + b) FROM t", (40,))
+    code = None
+    try:
+        b.run(begin), shows(b, "SELECT sum(a + b) FROM t", (40,))
+        done(a, "UPDATE t SET a = a - 15 WHERE id = 1", "COMMIT")
+        done(b, *last, "COMMIT")
+    except Error as error:
+        code = error.code
+    for connection in (a, b):
+        connection.is_over() or done(connection, "ROLLBACK")
+    return code, a.run("SELECT a, b FROM t")
+
+
+def two_writers_of_what_both_have_read_commit_but_for_these_rules(room):
+    columns, rows = ["UPDATE t SET b = b - 15 WHERE id = 1"], ["UPDATE t SET a = a - 15 WHERE id = 2"]
+    conflict = (BUSY_SNAPSHOT, [(-5, 10), (10, 10)])
+    for name, words, begin, last, wanted in [
+        ("own", "", "BEGIN", columns, conflict),
+        ("own2", "", "BEGIN", rows, conflict),
+        ("t1", "", "BEGIN", columns, (None, [(-5, -5), (10, 10)])),
+        ("t2", "", "BEGIN", rows, (None, [(-5, 10), (-5, 10)])),
+        ("t3", ", conflicts=row", "BEGIN", columns, conflict),
+        ("t4", ", conflicts=row", "BEGIN", rows, (None, [(-5, 10), (-5, 10)])),
+        ("t5", "", "BEGIN", ["UPDATE t SET a = a", *rows], conflict),
+        ("t6", "", "BEGIN IMMEDIATE", columns, (BUSY, [(10, 10), (10, 10)])),  # the second one doesn't begin
+    ]:
+        assert (found := skewed(room, name, words, begin, last)) == wanted, (name, found)
+
+
+def what_no_schema_has_any_more_is_let_go(room):
+    """A database that was detached, and a table that another connection has dropped, whatever statements are kept."""
+    path, folder = room.folder / "some.db", room.folder / "shop"
+    off = IN.format(table="items", folder=folder, words=", sync=off" + ITEMS)
+    a = room.connect(path, tables=False)
+    done(a, f"ATTACH '{room.folder}/more.db' AS more", IN.format(table="more.items", folder=folder, words=ITEMS).replace("='more.", "='"))
+    kept = [a.prepare("SELECT id FROM items"), a.prepare("DELETE FROM items WHERE id = 1")]
+    assert list(a.step(kept[0])) == [] == list(a.step(kept[1]))
+    done(a, THREE, "DETACH more", "SELECT 1 WHERE 0")
+    done(room.connect(tables=False), off, "DROP TABLE items")  # opened with another sync, since it was closed
+    done(a, off)
+    shows(a, "SELECT count(*) FROM items", (3,))
+    # by the connection's next table, or its next call of a function of pdt
+    b = room.connect(path, tables=False)
+    drop = f"SELECT pdt_drop('{folder}', 'items')"
+    for lets_go in (f"SELECT pdt_fold('x') FROM (SELECT 1) WHERE 0; {drop}", off.replace("TABLE items", "TABLE temp.x").replace("'items'", "'x'")):
+        shows(b, "SELECT count(*) FROM items", *a.run("SELECT count(*) FROM items"))
+        kept.append(a.prepare("SELECT id FROM items"))
+        done(b, "DROP TABLE items")
+        refused(b, drop, LOCKED, f"pdt: items in {folder} is a table of a connection: drop that first")
+        refused(a, "SELECT * FROM items", ERROR, "no such table: items")
+        a.run(lets_go.rpartition("; ")[2])
+        if "temp.x" in lets_go:
+            shows(b, drop, (None,))
+        done(a, off)
+        shows(a, "SELECT count(*) FROM items", (0,))
+    for statement in kept:
+        a.finalize(statement)
+
+
+def a_foreign_key_to_a_table_is_a_mismatch(room):
+    """As to one of R-Tree or FTS5, and no damage of SQLite's file."""
+    c = filled(room)
+    shows(c, "PRAGMA foreign_keys = ON")
+    done(c, "CREATE TABLE child (x REFERENCES items(id))", "CREATE TABLE more (x, y, FOREIGN KEY (x, y) REFERENCES sales(item, day))")
+    for table, of in (("child", "items"), ("more", "sales")):
+        mismatch = f'foreign key mismatch - "{table}" referencing "{of}"'
+        refused(c, f"INSERT INTO {table} (x) VALUES (10)", ERROR, mismatch)
+        refused(c, f"PRAGMA foreign_key_check({table})", ERROR, mismatch)
+    done(c, "DELETE FROM items WHERE id = 10", "UPDATE items SET id = 11 WHERE id = 20")
+    shows(c, "SELECT id FROM items", (11,), (30,))
+    shows(c, "SELECT name, pk FROM pragma_table_info('items') WHERE pk", ("id", 1))
+    shows(c, "SELECT id FROM items WHERE id = '11 '", *c.run("SELECT 11 WHERE 11 = CAST('11 ' AS INTEGER)"))
+    done(c, IN.format(table="words", folder=room.folder / "shop", words=", word TEXT PRIMARY KEY"))
+    done(c, "INSERT INTO words VALUES ('a'), ('a ')")
+    shows(c, "SELECT count(*), count(DISTINCT word) FROM words", (2, 2))
+    shows(c, "SELECT count(*) FROM words WHERE word = 'a'", (1,))
+    shows(c, "SELECT DISTINCT word FROM words ORDER BY word DESC", ("a ",), ("a",))
 
 
 def savepoints_are_of_all_tables(room):
@@ -735,7 +861,9 @@ def main():
     tests += [savepoints_are_of_all_tables, sqlites_own_tables_are_in_the_transaction, what_sqlite_cant_commit_after_it_stands]
     tests += [one_database_is_written_in_a_transaction, a_drop_leaves_the_table_in_its_database]
     tests += [a_making_that_is_undone_takes_its_table_away, a_table_that_is_made_later_waits_for_the_next_transaction]
-    tests += [a_table_whose_making_is_undone_has_no_reader]
+    tests += [a_table_whose_making_is_undone_has_no_reader, a_statement_with_triggers_is_of_one_moment]
+    tests += [two_writers_of_what_both_have_read_commit_but_for_these_rules]
+    tests += [what_no_schema_has_any_more_is_let_go, a_foreign_key_to_a_table_is_a_mismatch]
     tests += [statements_half_way, two_connections_share_a_database, one_that_another_process_has_is_busy, damage_is_named]
     run(tests + [a_device_that_fails_takes_no_commit, functions, threads])
 

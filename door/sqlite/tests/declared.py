@@ -14,7 +14,7 @@ from datetime import date, datetime
 from pathlib import Path
 
 from databases import closed, in_child
-from draws import CHECKS, Drawn, quoted
+from draws import CHECKS, OTHER, Drawn, has_wrong_value, quoted
 from room import CONSTRAINT, ERROR, MISMATCH, done, refused, run, shows
 from sql import Connection, Error, memory_used
 
@@ -264,16 +264,16 @@ def zeros_of_both_signs(room):
 def what_has_no_value_is_told(room):
     folder = str(room.folder / "shop")
     with narthexmace.connect(folder) as db:
-        for name, format_ in [("t", "tdD"), ("seconds", "tss:UTC"), ("millis", "tsm:"), ("nanos", "tsn:"), ("real", "?g")]:
+        for name, format_ in [("t", "tdD"), ("seconds", "tss:UTC"), ("millis", "tsm:"), ("nanos", "tsn:"), ("real", "?g"), ("double", "g")]:
             t = db.create(name, {"k": [2932896, 1, 2, 0], "v": [2932896, 1, 2, 0]}, key="k")
             t.declare("v", format_)
             if name == "t":
                 t.declare("k", "tdD")
             with t.begin() as txn:
                 txn.insert_many({"k": [2932897], "v": [2932897]}) if name == "t" else None
-                txn.insert((7, float("nan"))) if name == "real" else None
+                txn.insert((7, float("nan"))) if name in ("real", "double") else None
     c = room.connect(tables=False)
-    for name in ["t", "seconds", "millis", "nanos", "real"]:
+    for name in ["t", "seconds", "millis", "nanos", "real", "double"]:
         done(c, f"CREATE VIRTUAL TABLE {name} USING pdt(database='{folder}', table='{name}')")
     wrong = "has the number 2932897, which is no date of the years 0000 to 9999"
     refused(c, "SELECT k FROM t", MISMATCH, f"pdt: column k {wrong}")
@@ -284,6 +284,9 @@ def what_has_no_value_is_told(room):
     shows(c, "SELECT v FROM millis WHERE k < 2", ("1970-01-01 00:00:00",), ("1970-01-01 00:00:00.001",))
     shows(c, "SELECT v FROM nanos WHERE k = 2", (2,))
     shows(c, "SELECT v FROM real WHERE v IS NULL", (None,))
+    shows(c, "SELECT k, v FROM double WHERE v IS NULL", (7, None))
+    shows(c, "SELECT k FROM double WHERE v IS NOT NULL", (0,), (1,), (2,), (2932896,))
+    shows(c, "SELECT count(*), count(v) FROM double", (5, 4))
     takes = "takes a timestamp as 2024-12-31 23:59:59, not another text"
     refused(c, "UPDATE seconds SET v = '2024-01-01 00:00:00.5'", CONSTRAINT, f"pdt: column v {takes}")
     refused(c, "UPDATE millis SET v = '2024-01-01 00:00:00.0005'", CONSTRAINT, f"pdt: column v {takes}")
@@ -324,7 +327,7 @@ REALS = ["0.1", "-0.1", "9e999", "-9e999", "5e-324", "-5e-324", "2.2250738585072
 DATES = ["0000-01-01", "0001-01-01", "1582-10-10", "1969-12-31", "1970-01-01", "2000-02-29", "2024-02-29", "2024-03-01", "9999-12-31"]
 TIMES = ["00:00:00", "00:00:00.000001", "01:02:03.500000", "23:59:59", "23:59:59.999999"]
 ODD = ["2024", "2024-02", "2024-02-29 ", "2024-02-29T", "2024-02-29 00:00:00.5", "2024-02-30", "x", "", "1", "9999-12-31 23:59:60", "~"]
-KINDS = ["range of a key", "order of a key", "list", "failed", "BEGIN", "COMMIT", "ROLLBACK", "SAVEPOINT", "ROLLBACK TO", "reopened"]
+KINDS = ["range of a key", "order of a key", "list", "failed", "wrong value", "BEGIN", "COMMIT", "ROLLBACK", "SAVEPOINT", "ROLLBACK TO", "reopened"]
 
 
 class DeclaredDrawn(Drawn):
@@ -398,8 +401,9 @@ class Run:
         self.virtual.run(MAKE.format("t", self.folder, f"{declared}, PRIMARY KEY ({names}), sync=off"))
         checks = ", ".join(f"{name} {OWN[kind].format(name)}" for name, kind in self.columns)
         self.own.run(f"CREATE TABLE t ({checks}, PRIMARY KEY ({names})) WITHOUT ROWID")
-        self.both("CREATE TABLE other (k INTEGER, word TEXT)")
-        self.both("INSERT INTO other VALUES (5, 'Ann'), (7, '2024-02-29'), (NULL, 'a'), (0.25, '2024-02-11 00:00:00'), (0, '2024')")
+        self.both(f"CREATE TABLE {OTHER}")
+        self.both("INSERT INTO other VALUES (5, 'Ann', 2.5), (7, '2024-02-29', 7.5), (NULL, 'a', NULL), (0, '2024', 0.1), "
+                  "(0.25, '2024-02-11 00:00:00', -0.25)")  # fmt: skip
         for _ in range(30):
             self.both(f"INSERT OR IGNORE INTO t VALUES {self.drawn.row()}")
 
@@ -412,7 +416,9 @@ class Run:
         self.count += 1
         self.done.append(sql)
         found, text = outcome(self.virtual, sql, ordered)
-        wanted, _ = outcome(self.own, sql, ordered)
+        is_wrong = has_wrong_value(self.own, sql)
+        self.kinds["wrong value"] += is_wrong
+        wanted, _ = (MISMATCH, "") if is_wrong else outcome(self.own, sql, ordered)
         if found != wanted:
             tail = "\n".join(self.done[-40:])
             raise AssertionError(f"{self.columns}\n{tail}\nfound {found} {text}\nwanted {wanted}")

@@ -1,10 +1,14 @@
 """Draws statements of SQL over a table `t` or `u`, beside which there is a plain table `other`.
 """
-WORDS = ["", "Ann", "Ann, Jr", "Bob", "Zoë", "a", "A", "5", "05", "\U0001f600", "é" * 40]
+from sql import Error
+
+WORDS = ["", "Ann", "Ann, Jr", "Bob", "Zoë", "a", "A", "5", "05", "2.5", "7.50", "\U0001f600", "é" * 40]
 CHECKS = {
     "int": "INTEGER NOT NULL CHECK (typeof({0}) = 'integer')",
     "text": "TEXT NOT NULL CHECK (typeof({0}) = 'text')",
     "bool": "BOOLEAN NOT NULL CHECK (typeof({0}) = 'integer' AND {0} IN (0, 1))",
+    "int?": "INTEGER CHECK (typeof({0}) IN ('integer', 'null') AND {0} IS NOT -9223372036854775808)",
+    "real?": "REAL CHECK (typeof({0}) IN ('real', 'null'))",
 }
 RULES = ["", " OR ABORT", " OR FAIL", " OR IGNORE", " OR REPLACE", " OR ROLLBACK"]
 TABLES = [  # columns, and how many of them are the key
@@ -14,6 +18,12 @@ TABLES = [  # columns, and how many of them are the key
     ([("id", "int"), ("name", "text"), ("sold", "bool"), ("qty", "int")], 3),
     ([("name", "text"), ("id", "int"), ("word", "text")], 2),
 ]
+TYPED = [  # of a database, ? where NULL is taken
+    ([("id", "int"), ("qty", "int?"), ("price", "real?"), ("name", "text")], 1),
+    ([("name", "text"), ("qty", "real?"), ("sold", "bool")], 1),
+    ([("name", "text"), ("id", "int"), ("qty", "int?")], 2),
+]
+OTHER = "other (k INTEGER, word TEXT, r REAL)"
 
 
 class Drawn:
@@ -23,6 +33,7 @@ class Drawn:
         self.draw, self.columns, self.keys = draw, columns, [name for name, _ in columns[:keys]]
         self.values = [column for column in columns[keys:]]
         self.kinds, self.most, self.table = kinds, most, "t"  # most: how many rows an INSERT has at most
+        self.has_limit = False  # whether SQLite has DELETE and UPDATE with ORDER BY and LIMIT
 
     def rule(self, verb):
         """What is done where a row can't be written."""
@@ -32,6 +43,12 @@ class Drawn:
 
     def cell(self, kind):
         """A literal that a column of the type takes."""
+        if kind[-1] == "?" and self.draw.random() < 0.3:
+            return "NULL"
+        if kind == "int?":
+            return str(self.draw.randrange(-9, 30))
+        if kind == "real?":
+            return self.draw.choice([str(self.draw.randrange(-20, 20) / 4), "1e300", "-0.001", "'2.5'", "7"])
         if kind == "int":
             return str(self.draw.choice([self.draw.randrange(-9, 30)] * 8 + [-(2**63), 2**63 - 1]))
         return self.draw.choice(["0", "1"]) if kind == "bool" else quoted(self.draw.choice(WORDS))
@@ -58,8 +75,11 @@ class Drawn:
         if op == "IN":
             self.kinds["IN over a text key"] += kind == "text" and name in self.keys
             bounds = ", ".join(self.bound(kind) for _ in range(3))
-            found = ["SELECT k FROM other", "SELECT word FROM other", bounds]
-            return f"{name} {self.draw.choice(['IN', 'IN', 'NOT IN'])} ({self.draw.choice(found)})"
+            reals = self.draw.choice(["SELECT r FROM other", "SELECT r FROM other WHERE r <> 5", "2.5, 7.5"])
+            is_text_key = kind == "text" and name in self.keys
+            found = self.draw.choice(["SELECT k FROM other", "SELECT word FROM other", bounds, reals] + [reals] * is_text_key)
+            self.kinds["list of reals beside a text key"] += found == reals and is_text_key
+            return f"{name} {self.draw.choice(['IN', 'IN', 'NOT IN'])} ({found})"
         if op == "LIKE":
             return f"{name} LIKE 'a%'"
         return f"{name} {op} {self.bound(kind)}" + (self.draw.choice([""] * 8 + [" COLLATE NOCASE"]) if may_collate else "")
@@ -106,14 +126,16 @@ class Drawn:
                 (f"SELECT count(*) FROM {t} a JOIN {t} b USING ({', '.join(self.keys)})", True),
                 (f"SELECT * FROM other LEFT JOIN {t} ON word = {name}{' AND ' + where[7:] if where else ''}", False),
                 (f"SELECT {first} FROM {t}{where} UNION SELECT k FROM other", False),
+                (f"SELECT k FROM other LEFT JOIN {t} ON {first} {self.draw.choice(['=', 'IS'])} k WHERE {first} IS NULL", False),
+                (f"SELECT {first} FROM {t}{where} UNION ALL SELECT k FROM other LIMIT 4 OFFSET {self.draw.randrange(4)}", True),
             ]
         )
 
     def sets(self):
         """What an UPDATE sets; no key column."""
         name, kind = self.draw.choice(self.values)
-        if kind == "int":
-            value = self.draw.choice([self.cell("int"), f"{name} / 2 + 1"])
+        if kind in ("int", "int?", "real?"):
+            value = self.draw.choice([self.cell(kind), f"{name} / 2 + 1"])
         elif kind == "text":
             value = self.draw.choice([self.cell("text"), f"substr({name} || 'x', 1, 60)"])
         else:
@@ -146,8 +168,17 @@ class Drawn:
             rows[self.draw.randrange(len(rows))] = self.row(bad=True)
         return f"INSERT{rule} INTO {self.table} VALUES {', '.join(rows)}"
 
+    def first(self):
+        """A DELETE or an UPDATE of the first rows of an order."""
+        verb = self.draw.choice(["DELETE", "UPDATE"])
+        self.kinds[f"{verb} LIMIT"] += 1
+        which = f"{self.where()}{self.order()} LIMIT {self.draw.randrange(4)} OFFSET {self.draw.randrange(3)}"
+        return f"DELETE FROM {self.table}{which}" if verb == "DELETE" else f"UPDATE {self.table} SET {self.sets()}{which}"
+
     def write(self):
         """A statement that writes; no shift."""
+        if self.has_limit and self.draw.random() < 0.1:
+            return self.first()
         x = self.draw.random()
         if x < 0.4:
             return self.insert()
@@ -162,10 +193,26 @@ class Drawn:
             self.kinds["INSERT SELECT"] += 1
             return f"INSERT OR IGNORE INTO {self.table} SELECT * FROM {self.table}{self.where()}"
         if x < 0.85:
-            row = f"{self.draw.randrange(20)}, {quoted(self.draw.choice(WORDS))}"
+            row = f"{self.draw.randrange(20)}, {quoted(self.draw.choice(WORDS))}, {self.draw.choice(['2.5', '5', '7.5', 'NULL'])}"
             return f"INSERT INTO other SELECT {row} WHERE (SELECT count(*) FROM other) < 9"
         self.kinds["DELETE"] += 1
         return f"DELETE FROM {self.table}{self.draw.choice([self.where() or self.one(), self.one()])}"
+
+
+def has_wrong_value(own, sql):
+    """Whether a statement with OR IGNORE comes to a value that a column of SQLite's own table doesn't take by its CHECK. It passes over
+    that row, and a table of pdt refuses the statement. With OR REPLACE no key that is there is met before the value."""
+    if " OR IGNORE" not in sql:
+        return False
+    own.run("SAVEPOINT wrong_value")
+    try:
+        own.run(sql.replace(" OR IGNORE", " OR REPLACE"))
+        is_wrong = False
+    except Error as error:
+        is_wrong = error.text.startswith("CHECK constraint failed")
+    own.run("ROLLBACK TO wrong_value")
+    own.run("RELEASE wrong_value")
+    return is_wrong
 
 
 def quoted(word):

@@ -24,7 +24,12 @@ BLOCKS = [  # each as one: all of its statements, or none
      "DELETE FROM t WHERE id > 9", "ROLLBACK TO b", "UPDATE t SET name = 'y', qty = 9 WHERE id > 30", "RELEASE a"],
     ["BEGIN", "UPDATE t SET qty = 6 WHERE id = 30", "SAVEPOINT a", "DROP TABLE t", "ROLLBACK TO a",
      "DELETE FROM t WHERE id = 33", "COMMIT"],
+    ["BEGIN", "SAVEPOINT a", "CREATE temp.x", "SELECT * FROM x", "INSERT INTO x VALUES (1, 1)", "ROLLBACK TO a",
+     "DELETE FROM t WHERE id = 36", "COMMIT"],
+    ["BEGIN", "CREATE temp.x", "SAVEPOINT a", "INSERT INTO x VALUES (1, 1)", "ROLLBACK TO a", "DROP TABLE x",
+     "DELETE FROM t WHERE id = 39", "COMMIT"],
 ]
+TEMPORARY = "CREATE temp.x"  # stands for a temporary table, which each connection has in a way of its own
 PAIR = "CREATE TABLE {} (id INTEGER PRIMARY KEY, qty REAL) WITHOUT ROWID"
 MAKE = "CREATE VIRTUAL TABLE {table} USING pdt(database='{folder}', table='{table}', sync=off, id INTEGER PRIMARY KEY, qty REAL NULL)"
 PAIRS = [  # the same over both tables of a database
@@ -40,11 +45,11 @@ READS += ["SELECT qty FROM t WHERE id = 21 AND slot IN ('s', 't')"]
 READS += ["SELECT pdt_fold('t')", "SELECT * FROM pdt_layers('t')"]
 
 
-def is_done(connection, block):
+def is_done(connection, block, temporary=""):
     """Whether all of a block was done; if not, memory was refused, and none was."""
     try:
         for sql in block:
-            connection.run(sql)
+            connection.run(temporary if sql == TEMPORARY else sql)
         return True
     except Error as error:
         assert error.code == NOMEM or error.text.endswith("memory was refused"), error
@@ -70,8 +75,8 @@ def session(extension, folder, refuse, n):
         number, slot, name, qty = line.split(",")
         plain.run(f"INSERT INTO t VALUES ({number}, '{slot}', '{name}', {qty})")
     for i, block in enumerate(BLOCKS):
-        if is_done(virtual, block):
-            assert is_done(plain, block), block
+        if is_done(virtual, block, f"CREATE VIRTUAL TABLE temp.x USING pdt('{folder}/x.csv')"):
+            assert is_done(plain, block, "CREATE TABLE temp.x (id INTEGER PRIMARY KEY, n INTEGER) WITHOUT ROWID"), block
         is_done(virtual, [READS[i % len(READS)]])
     left = refuse(0)
     found, wanted = virtual.run("SELECT * FROM t"), plain.run("SELECT * FROM t")
@@ -124,6 +129,7 @@ def main():
     n = 1
     with tempfile.TemporaryDirectory() as folder:
         Path(folder, "t.csv").write_text(CSV)
+        Path(folder, "x.csv").write_text("id:int:key,n:int\n")
         while session(extension, folder, refuse, n):
             n += 1
     assert n > 100, f"only {n} allocations"

@@ -8,6 +8,8 @@ from sql import Connection, Error, memory_used
 ERROR, ABORT, BUSY, FULL, CONSTRAINT, MISMATCH, BUSY_SNAPSHOT = 1, 4, 5, 13, 19, 20, 517
 CSV = 'id:int:key,name:text,qty:int,sold:bool\n30,Cid,3,true\n10,"Ann, Jr",1,false\n20,Bob,2,true\n'
 PARTS = "bin:text:key,slot:int:key,what:text\na,1,nut\na,2,bolt\nb,-5,gear\nb,3,cog\n"
+BLIND = "pdt: its trace callback was replaced, and it may have missed the end of a transaction. It is set again: end this one, and "
+BLIND += "begin anew"
 IN_CONFLICT = "pdt: a commit since the transaction began is in conflict with it"
 
 
@@ -19,9 +21,9 @@ class Room:
         (self.folder / "t.csv").write_text(CSV)
         (self.folder / "parts.csv").write_text(PARTS)
 
-    def connect(self, path=":memory:", words="", tables=True):
+    def connect(self, path=":memory:", words="", tables=True, **how):
         """A connection, in which t and parts are the two tables."""
-        connection = Connection(path)
+        connection = Connection(path, **how)
         self.connections.append(connection)
         if tables:
             connection.run(f"CREATE VIRTUAL TABLE t USING pdt('{self.folder}/t.csv'{words})")
@@ -73,12 +75,13 @@ class Beside:
 
     def texts(self, sql):
         """A statement for the virtual table, and the one for SQLite's own."""
-        verb, _, table = sql.partition(" ")
+        verb, _, name = sql.partition(" ")
+        table = name.rpartition(".")[2]  # behind that of its schema, as in temp.u
         if verb != "CREATE" or table not in HEADERS:
             return sql, sql
         columns = WORDS if table == "w" else PAIR
-        virtual = f"CREATE VIRTUAL TABLE {table} USING pdt('{self.files}.{table}.csv'{self.words})"
-        return virtual, f"CREATE TABLE {table} ({columns}) WITHOUT ROWID"
+        virtual = f"CREATE VIRTUAL TABLE {name} USING pdt('{self.files}.{table}.csv'{self.words})"
+        return virtual, f"CREATE TABLE {name} ({columns}) WITHOUT ROWID"
 
     def alike(self, *statements):
         """Each statement has the same rows in both, or fails with the same code."""

@@ -32,12 +32,25 @@ def memory_used():
     return _lib.sqlite3_memory_used()
 
 
+def is_compiled_with(option):
+    """Whether SQLite was compiled with an option."""
+    return bool(_lib.sqlite3_compileoption_used(option.encode()))
+
+
+def load_automatically(extension=EXTENSION):
+    """From now on each connection has the extension from its opening on; answers what ends that."""
+    start = ctypes.cast(ctypes.CDLL(str(extension)).sqlite3_pdt_init, ctypes.c_void_p)
+    assert _lib.sqlite3_auto_extension(start) == 0
+    return _lib.sqlite3_reset_auto_extension
+
+
 class Connection:
     """A connection that has loaded the extension."""
 
-    def __init__(self, path=":memory:", extension=EXTENSION):
-        self._db = ctypes.c_void_p()
-        if _lib.sqlite3_open(str(path).encode(), ctypes.byref(self._db)):
+    def __init__(self, path=":memory:", extension=EXTENSION, read_only=False):
+        self._db, self._functions = ctypes.c_void_p(), []
+        flags = 1 if read_only else 2 | 4  # SQLITE_OPEN_READONLY; else .._READWRITE and .._CREATE
+        if _lib.sqlite3_open_v2(str(path).encode(), ctypes.byref(self._db), flags, None):
             raise Error(1, "can't open")
         _lib.sqlite3_extended_result_codes(self._db, 1)
         if extension:
@@ -99,6 +112,12 @@ class Connection:
         """Sets a commit hook that refuses each commit of SQLite's own, or none."""
         self._hook = ctypes.CFUNCTYPE(ctypes.c_int, ctypes.c_void_p)(lambda _: 1) if is_on else None
         _lib.sqlite3_commit_hook(self._db, self._hook, None)
+
+    def function(self, name, call):
+        """Makes a function of SQL with no argument, which has Python called, and is NULL."""
+        called = ctypes.CFUNCTYPE(None, ctypes.c_void_p, ctypes.c_int, ctypes.c_void_p)(lambda *_: call())
+        self._functions.append(called)
+        assert _lib.sqlite3_create_function(self._db, name.encode(), 0, 1, None, called, None, None) == 0
 
     def close(self):
         """Closes the connection, in which no statement is open."""

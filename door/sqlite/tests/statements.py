@@ -2,7 +2,7 @@
 
     statements.py
 """
-from room import BUSY_SNAPSHOT, CONSTRAINT, ERROR, FULL, Beside, done, outcome, refused, run, shows
+from room import BUSY_SNAPSHOT, CONSTRAINT, ERROR, FULL, MISMATCH, Beside, done, outcome, refused, run, shows
 
 FULL_TABLE = "pdt: the table has as many rows as its limit"
 TOO_OLD = "pdt: the transaction began before the commits that are kept"
@@ -22,6 +22,12 @@ def an_in_over_a_text_key_finds_what_sqlites_own_finds(room):
     for words in ["5, 6", "'5', 6.0", "'05', NULL", "5.0", "x'35'", "'a', '', 'none'"]:
         beside.alike(f"SELECT * FROM w WHERE word IN ({words})")
         beside.alike(f"SELECT * FROM w WHERE word IN ({words}) ORDER BY word DESC")
+    # reals with a fraction alone: those without one are handed out as integers
+    beside.alike("CREATE TABLE halves (r REAL)", "INSERT INTO halves VALUES (2.5), (7.5), (NULL)")
+    beside.alike("INSERT INTO w VALUES ('2.5', 8), ('2.50', 9), ('7.5', 10), ('7.5x', 11)")
+    for words in ["SELECT r FROM halves", "2.5, 7.5", "2.5, '7.5x'", "SELECT r FROM halves WHERE r > 3"]:
+        for verb in ["IN", "NOT IN"]:
+            beside.alike(f"SELECT * FROM w WHERE word {verb} ({words})", f"SELECT * FROM w WHERE word {verb} ({words}) ORDER BY word DESC")
     beside.alike("SELECT * FROM w JOIN plain ON word = k", "SELECT * FROM w JOIN plain ON word = s AND word IN ('a', 5)")
     beside.alike("UPDATE w SET qty = 0 WHERE word IN (SELECT k FROM plain)", "SELECT * FROM w")
     beside.alike("DELETE FROM w WHERE word IN (SELECT r FROM plain)", "SELECT * FROM w")
@@ -102,7 +108,8 @@ def a_full_table_is_a_constraint_of_its_statement(room):
     refused(c, "INSERT INTO t VALUES (50, '', 0, 0)", CONSTRAINT, FULL_TABLE)
     refused(c, "INSERT INTO t SELECT id + 100, name, qty, sold FROM t", CONSTRAINT, FULL_TABLE)
     refused(c, "INSERT OR REPLACE INTO t VALUES (50, '', 0, 0)", CONSTRAINT, FULL_TABLE)
-    done(c, "INSERT OR IGNORE INTO t VALUES (50, '', 0, 0)", "INSERT OR REPLACE INTO t VALUES (40, 'x', 0, 0)")
+    refused(c, "INSERT OR IGNORE INTO t VALUES (40, '', 0, 0), (50, '', 0, 0)", ERROR, FULL_TABLE)
+    done(c, "INSERT OR IGNORE INTO t VALUES (40, '', 0, 0)", "INSERT OR REPLACE INTO t VALUES (40, 'x', 0, 0)")
     done(c, "UPDATE t SET id = 41 WHERE id = 40", "COMMIT")
     shows(c, "SELECT id, name FROM t WHERE id > 20", (30, "Cid"), (41, "x"))
     shows(c, "SELECT * FROM plain", (1,))
@@ -123,17 +130,59 @@ def a_full_table_is_a_constraint_of_its_statement(room):
 
 
 def a_value_that_is_not_taken_goes_by_the_or_of_its_statement(room):
+    """But OR IGNORE passes over a NULL alone, as in a STRICT table: another value ends the statement, and nothing of it is done."""
     for number, rule in enumerate(["", " OR ABORT", " OR FAIL", " OR IGNORE", " OR REPLACE", " OR ROLLBACK"]):
         beside = Beside(room, f"rule{number}")
         beside.alike("CREATE t", "CREATE TABLE plain (k)", "INSERT INTO t VALUES (1, 1), (2, 2), (3, 3)")
         past = ["-9223372036854775808.0", "9223372036854775808.0", "'9223372036854775808'"]
         for value in ["NULL", "1.5", "'x'", "x'61'", *past]:
             beside.alike("BEGIN", "INSERT INTO plain VALUES (1)")
-            beside.alike(f"INSERT{rule} INTO t VALUES (4, 4), ({value}, 5), (6, 6)", "SELECT * FROM t")
-            beside.alike(f"UPDATE{rule} t SET qty = CASE id WHEN 2 THEN {value} ELSE 9 END", "SELECT * FROM t")
-            beside.alike(f"UPDATE{rule} t SET id = CASE id WHEN 2 THEN {value} ELSE -id END", "SELECT * FROM t")
+            for sql in [
+                f"INSERT{rule} INTO t VALUES (4, 4), ({value}, 5), (6, 6)",
+                f"UPDATE{rule} t SET qty = CASE id WHEN 2 THEN {value} ELSE 9 END",
+                f"UPDATE{rule} t SET id = CASE id WHEN 2 THEN {value} ELSE -id END",
+            ]:
+                if "IGNORE" not in rule or value == "NULL":
+                    beside.alike(sql)
+                else:
+                    assert outcome(beside.virtual, sql) == MISMATCH, sql
+                beside.alike("SELECT * FROM t")
             beside.alike("ROLLBACK", "SELECT * FROM t", "SELECT * FROM plain")
     beside.alike("INSERT INTO t VALUES (-9223372036854775808, '-9223372036854775808'), ('7', 8.0)", "SELECT * FROM t")
+
+
+def the_last_rowid_is_the_key_where_that_is_one_number(room):
+    """As of an INTEGER PRIMARY KEY; any other key leaves it, as that of a table WITHOUT ROWID does."""
+    c, last = room.connect(), "SELECT last_insert_rowid()"
+    (room.folder / "flags.csv").write_text("flag:bool:key,qty:int\n")
+    done(c, f"CREATE VIRTUAL TABLE flags USING pdt('{room.folder}/flags.csv')")
+    for name, kind in [("prices", "REAL"), ("days", "DATE"), ("times", "TIMESTAMP"), ("words", "TEXT"), ("numbers", "INTEGER")]:
+        declared = f"database='{room.folder}/shop', table='{name}', sync='off', k {kind} PRIMARY KEY, qty INTEGER"
+        done(c, f"CREATE VIRTUAL TABLE {name} USING pdt({declared})")
+    done(c, "CREATE TABLE plain (id INTEGER PRIMARY KEY, x)", "CREATE TABLE lines (of_plain INTEGER)")
+    for rowid, sql in [
+        (3, "INSERT INTO plain (x) VALUES ('a'), ('b'), ('c')"),
+        (3, "INSERT INTO parts VALUES ('c', 1, 'rod')"),
+        (3, "INSERT INTO flags VALUES (1, 1)"),
+        (3, "INSERT INTO words VALUES ('5', 1)"),
+        (3, "INSERT INTO prices VALUES (7.5, 1)"),
+        (3, "INSERT INTO days VALUES ('2024-12-31', 1)"),
+        (3, "INSERT INTO times VALUES ('2024-12-31 23:59:59', 1)"),
+        (77, "INSERT INTO t VALUES (77, '', 0, 0)"),
+        (-2, "INSERT INTO numbers VALUES (5, 1), (-9223372036854775808, 1), ('-2', 1)"),
+        (-2, "INSERT OR IGNORE INTO numbers VALUES (5, 9), (-2, 9)"),
+        (5, "INSERT OR REPLACE INTO numbers VALUES (-2, 9), (5, 9)"),
+        (5, "UPDATE numbers SET k = 6 WHERE k = 5"),
+        (4, "INSERT INTO plain (x) VALUES ('d')"),
+        (4, "DELETE FROM numbers WHERE k = 6"),
+    ]:
+        done(c, sql)
+        shows(c, last, (rowid,))
+    refused(c, "INSERT INTO numbers VALUES (8, 1), (-2, 9)", CONSTRAINT, "pdt: there is a row of the key")
+    # what a trigger inserts is forgotten at its end, as of any table
+    done(c, "CREATE TRIGGER on_plain AFTER INSERT ON plain BEGIN INSERT INTO numbers VALUES (new.id + 100, 0); "
+            "INSERT INTO lines VALUES (last_insert_rowid()); END", "INSERT INTO plain VALUES (9, '')")  # fmt: skip
+    shows(c, f"{last} UNION ALL SELECT of_plain FROM lines", (9,), (109,))
 
 
 def a_text_key_that_is_set_to_itself_leaves_the_texts_after_it(room):
@@ -219,6 +268,31 @@ def a_cursor_comes_to_the_rows_that_sqlites_own_comes_to(room):
                 room.connections.clear()
 
 
+def a_row_that_is_read_whole_is_the_one_that_is_there(room):
+    """Its cells are those after a write that one of them is made by: here it is at another position, or was away in between."""
+    c = room.connect()
+    (room.folder / "texts.csv").write_text("k:text:key,n:int:key,a:text,m:int,b:text\nkey,1,one,7,\nkey,2,,8,two\n")
+    done(c, f"CREATE VIRTUAL TABLE texts USING pdt('{room.folder}/texts.csv')", "BEGIN", "UPDATE t SET qty = 5 WHERE id = 20")
+    for name, text, qty, after in [
+        ("adds", "UPDATE t SET qty = qty + 1 WHERE id = 20", 5, 6),
+        ("moves", "INSERT INTO t VALUES (1, 'first', 0, 0)", 6, 6),
+        ("moves_back", "DELETE FROM t WHERE id < 20", 6, 6),
+        ("returns", "DELETE FROM t WHERE id = 20; INSERT INTO t VALUES (20, 'Bob', 50, 1)", 6, 50),
+        ("undoes", "SAVEPOINT a; UPDATE t SET qty = 9; INSERT INTO t VALUES (1, '', 0, 0); ROLLBACK TO a; RELEASE a", 50, 50),
+    ]:
+        c.function(name, lambda text=text: done(c, *text.split("; ")))
+        shows(c, f"SELECT id, name, qty, {name}(), qty, name, id FROM t WHERE id = 20", (20, "Bob", qty, None, after, "Bob", 20))
+    shows(c, "SELECT id, qty FROM t WHERE id IN (30, 20, 25)", (20, 50), (30, 3))
+    done(c, "ROLLBACK")
+    # texts among numbers, and keys of several columns
+    shows(c, "SELECT b, m, a, n, k FROM texts WHERE k = 'key' AND n = 2", ("two", 8, "", 2, "key"))
+    shows(c, "SELECT x.a, y.b FROM texts AS x JOIN texts AS y ON y.k = x.k AND y.n = x.n + 1", ("one", "two"))
+    done(c, "UPDATE texts SET a = b || 'x', b = a || 'y', m = m + 1 WHERE k = 'key' AND n = 2")
+    shows(c, "SELECT * FROM texts WHERE n = 2", ("key", 2, "twox", 9, "y"))
+    shows(c, "SELECT b, a FROM texts WHERE _rowid_ = (SELECT _rowid_ FROM texts WHERE n = 1)", ("", "one"))
+    shows(c, "SELECT a, b FROM texts WHERE k = 'none' AND n = 1")
+
+
 def visited(connection, sql, at, text):
     """The rows that a statement shows, where others are run once it is at a row; at most as many as end it."""
     rows = []
@@ -276,9 +350,10 @@ def main():
     tests += [a_cursor_over_a_list_comes_to_what_is_there_at_its_turn]
     tests += [an_update_that_meets_a_row_that_it_has_put_there_is_refused_whole]
     tests += [a_full_table_is_a_constraint_of_its_statement]
-    tests += [a_value_that_is_not_taken_goes_by_the_or_of_its_statement]
+    tests += [a_value_that_is_not_taken_goes_by_the_or_of_its_statement, the_last_rowid_is_the_key_where_that_is_one_number]
     tests += [a_text_key_that_is_set_to_itself_leaves_the_texts_after_it, the_longest_keys_are_in_their_ranges]
     tests += [a_transaction_that_wrote_nothing_leaves_no_record, a_cursor_comes_to_the_rows_that_sqlites_own_comes_to]
+    tests += [a_row_that_is_read_whole_is_the_one_that_is_there]
     tests += [functions_take_a_schemas_name, a_join_searches_by_the_first_column_of_a_key]
     run(tests)
 
