@@ -1,5 +1,5 @@
 # Each target is one line; the work is done by the toolchain's command rt, and by tools/.
-.PHONY: try run test mutants examples fmt check door install uninstall bench
+.PHONY: try run test mutants examples fmt check door install uninstall bench soak fuzz
 
 # compiles the program from source and runs it on its example, unproved: a look
 try:
@@ -48,3 +48,11 @@ uninstall:
 # It needs cargo and libsqlite3-dev, numpy and matplotlib of /usr/bin/python3; it names what isn't there, and leaves it out
 bench: door
 	bench/measure $(BENCH)
+
+# has a database run unattended, with kills, and checks it meanwhile: make soak MINUTES=60
+soak: door
+	tools/soak $(MINUTES)
+
+# draws calls beside models in C, Python and SQL, from new seeds: make fuzz MINUTES=10
+fuzz: door
+	tools/fuzz $(MINUTES)

@@ -16,9 +16,12 @@ const OPTIONS: DatabaseOptions = DatabaseOptions {
     sync: SyncMode::Off,
     early_reads: false,
     upkeep: false,
+    read_only: false,
     fold_entries: 1024,
     checkpoint_entries: 10_000,
     journal_bytes: 64 << 20,
+    kept_bytes: 256 << 20,
+    mode: 0o666,
 };
 
 pub fn run(size: &Size) -> Table {
