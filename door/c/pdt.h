@@ -54,10 +54,11 @@ typedef enum pdt_code {
   PDT_TOO_OLD = 3,        /* more commits since it began than are kept, or a cut; the transaction is over */
   PDT_FULL = 4,           /* the table would have more rows than its limit */
   PDT_DUPLICATE = 5,      /* there is a row of the key */
-  PDT_MISSING = 6,        /* there is no row of the key, none at the position, no such mark, or no such commit any more */
+  PDT_MISSING = 6,        /* there is no row of the key, none at the position, no table of the name, no such mark, or no such commit any
+                             more, or the time that pdt_wait was given is over */
   PDT_SHAPE = 7,          /* the cells don't fit the columns: their number, a type, UTF-8, a text above 4,096 bytes, a key
-                             column that would be set, bytes left over */
-  PDT_BAD_TABLE = 8,      /* the text is no table: pdt_open_csv tells why and where */
+                             column that would be set, bytes left over; or a table can't have the name, or a column the format */
+  PDT_BAD_TABLE = 8,      /* the text, or the columns, are no table: pdt_open_csv tells why and where */
   PDT_BAD_LIMIT = 9,      /* a limit is outside its range */
   PDT_TOO_MANY_ROWS = 10, /* the table has more rows than the limit */
   PDT_TOO_SMALL = 11,     /* the caller's room is too small */
@@ -65,7 +66,7 @@ typedef enum pdt_code {
   PDT_NO_IMAGE = 13,      /* the files hold no whole image */
   PDT_MISUSE = 14,        /* the call isn't one that may be made now, or a pointer is null */
   PDT_IO = 15,            /* a file can't be made, written, synced or read; errno says why */
-  PDT_EXISTS = 16,        /* a file of a store is there already */
+  PDT_EXISTS = 16,        /* a file of a store, or a table of the name, is there already */
   PDT_SUPERSEDED = 17,    /* since the checkpoint began something else has folded or checkpointed */
   PDT_NOT_ASCENDING = 18, /* a row's key isn't above that of the row before it */
   PDT_DEVICE_FAILED = 19, /* the caller's write didn't take the bytes, or the caller's stream failed */

@@ -1,6 +1,7 @@
 -- What is recovered of the files of a store with a journal.
 use Rattle.std.specs.Prelude.{◌≡◌, ◌≢◌, ◌≤◌, ℕ, ◌+◌, ◌==◌, if◌then◌else◌, Some, Result, Ok, Err, List, length, map}
 use Rattle.values.specs.Shape.{Columns}
+use Rattle.values.specs.declared.limits.TheConstants.{MAX_RECENT_COMMITS, MAX_ROWS}
 use Rattle.values.specs.declared.row.Row.{Row}
 use Rattle.codec.specs.Reading.{decoded}
 use Rattle.devices.specs.Stored.{Image, stored_image}
@@ -14,8 +15,8 @@ use Rattle.model.specs.Effects.{Effects}
 use Rattle.model.specs.Table.{Table, rows_of}
 use Rattle.pdtcli.specs.declared.refusal.Refusal.{Refusal}
 use Rattle.pdtcli.specs.declared.refusal.Refusal.TheVariants as refusal
-use Rattle.replay.specs.Recovered.{IsBlameless, IsCrashed, IsImage, IsTold, logged_since, table_at}
-use Rattle.replay.specs.Replayed.{AreSaid, rows_after}
+use Rattle.replay.specs.Recovered.{AreBehind, IsBlameless, IsCrashed, IsImage, IsTold, MayEnd, frames_since, logged_since, payloads_since, table_at}
+use Rattle.replay.specs.Replayed.{AreRead, AreSaid, IsCaused, IsMisfit, IsNamed, rows_after}
 use Rattle.replay.specs.declared.fault.RecoverFault.{RecoverFault}
 use Rattle.journaled.specs.declared.recovery.Pair.{Pair as Lent}
 
@@ -81,6 +82,10 @@ pub record IsRecovered (schema : Columns) (files : Files) (rows : List Row) : Ty
       rows
       ≡ rows_after image.table.rows
       (logged_since (decoded image.table.schema 0) (seed_of pair.commits.salt) pair.commits.base number pair.frames)
+  pub ending : MayEnd (commits_read pair).ending
+  -- no commit is passed over
+  pub reached : AreBehind pair.commits.base number (commits_read pair)
+  pub payloads : AreRead image.table.schema 0 (payloads_since (seed_of pair.commits.salt) pair.commits.base number pair.frames)
   pub prefix :
       (t : Table) (commits : List Effects) (safe : ℕ)
       → IsCrashed (decoded image.table.schema 0) image.table.schema (seed_of pair.commits.salt) pair.commits.base t commits safe
@@ -96,6 +101,13 @@ pub record IsUnmade (schema : Columns) (files : Files) (fault : RecoverFault) : 
   pub number : ℕ
   pub read : IsRead schema files pair image number
   pub told : IsTold fault pair.commits.base number (commits_read pair)
+  pub caused :
+      IsCaused MAX_RECENT_COMMITS MAX_ROWS image.table.rows
+      (logged_since (decoded image.table.schema 0) (seed_of pair.commits.salt) pair.commits.base number pair.frames)
+      fault
+  pub named :
+      IsMisfit fault
+      → IsNamed image.table.schema 0 (frames_since (seed_of pair.commits.salt) pair.commits.base number pair.frames) fault
   pub sound :
       (t : Table) (commits : List Effects) (safe : ℕ)
       → (crash :

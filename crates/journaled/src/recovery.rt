@@ -3,6 +3,7 @@ ghost use Rattle.std.specs.Prelude.{◌≡◌, false, List, IfErr, IfOk, map};
 ghost use Rattle.std.specs.Io.KnownBytes.{Appends};
 ghost use Rattle.pdtcli.specs.Output.{image_text};
 ghost use Rattle.pdtcli.specs.Refusals.{is_output};
+ghost use Rattle.values.specs.declared.limits.TheConstants.{MAX_RECENT_COMMITS, MAX_ROWS};
 ghost use Rattle.values.specs.declared.row.Row.{Row};
 ghost use Rattle.journaled.specs.Recovery.{IsLost, IsRecovered, pair_now, pair_of};
 
@@ -94,7 +95,10 @@ pub fn recover_journaled<W: Write>(
 }
 
 /// The widest limits: those of the run aren't stored.
-fn limits() -> Limits {
+fn limits() -> Limits
+    ensures row_limit { result.row_limit ≡ MAX_ROWS }
+    ensures recent { result.recent ≡ MAX_RECENT_COMMITS }
+{
     Limits {
         row_limit: MAX_ROWS,
         recent: MAX_RECENT_COMMITS,

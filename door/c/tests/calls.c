@@ -40,10 +40,25 @@ static uint64_t rows_of(pdt_txn *txn) {
 }
 
 static void texts(void) {
-  for (int code = PDT_OK; code <= PDT_TOO_LONG; code++) is("a text", 1, strcmp(pdt_text(code), "no such code") != 0);
+  for (int code = PDT_OK; code <= PDT_READONLY; code++) {
+    is("a text", 1, strcmp(pdt_text(code), "no such code") != 0);
+    for (int other = PDT_OK; other < code; other++) is("another text", 1, strcmp(pdt_text(code), pdt_text(other)) != 0);
+  }
+  is("the last code", 0, strcmp(pdt_text(PDT_READONLY + 1), "no such code"));
   is("no such code", 0, strcmp(pdt_text(-1), "no such code"));
   is("no such code", 0, strcmp(pdt_text(1000), "no such code"));
   is("the version that runs is that of the header", 0, strcmp(PDT_VERSION, pdt_version()));
+}
+
+/* A sentence is true of each call that answers the code: it names what each of them may lack, or may have been given. */
+static void shared_texts(void) {
+  static const struct {
+    int code;
+    const char *word;
+  } due[] = {{PDT_MISSING, "row"},      {PDT_MISSING, "table"},  {PDT_MISSING, "mark"},   {PDT_MISSING, "commit"},
+             {PDT_MISSING, "wait"},     {PDT_EXISTS, "table"},   {PDT_EXISTS, "file"},    {PDT_SHAPE, "cell"},
+             {PDT_SHAPE, "name"},       {PDT_SHAPE, "format"},   {PDT_BAD_TABLE, "text"}, {PDT_BAD_TABLE, "columns"}};
+  for (size_t i = 0; i < sizeof due / sizeof *due; i++) is(due[i].word, 1, strstr(pdt_text(due[i].code), due[i].word) != NULL);
 }
 
 static void openings(void) {
@@ -675,6 +690,7 @@ static void layers(void) {
 
 int main(int argc, char **argv) {
   texts();
+  shared_texts();
   openings();
   faults();
   writes();

@@ -661,14 +661,14 @@ static void reopen(void) {
 static void columns(void) {
   static const char *const heads[] = {"id", "name", "ok", "qty"};
   static const int types[] = {PDT_INT, PDT_TEXT, PDT_BOOL, PDT_INT, 0};
-  int column = below(WIDTH + 1), code = below(25) - 2;
+  int column = below(WIDTH + 1), code = below(PDT_READONLY + 5) - 2;
   is("columns", WIDTH, (long long)D(pdt_columns, store));
   is("key columns", 1, (long long)D(pdt_key_columns, store));
   is("type", types[column], D(pdt_column_type, store, (size_t)column));
   const char *name = D(pdt_column_name, store, (size_t)column);
   is("name", 0, column < WIDTH ? strcmp(heads[column], name) : name != NULL);
   is("the version", 0, strcmp(PDT_VERSION, D(pdt_version)));
-  answers("a sentence", code < 0 || code > PDT_TOO_LONG, strcmp("no such code", D(pdt_text, code)) == 0);
+  answers("a sentence", code < 0 || code > PDT_READONLY, strcmp("no such code", D(pdt_text, code)) == 0);
 }
 static void upkeep(void) {
   switch (below(9)) {

@@ -28,6 +28,9 @@ returns-in_err-recovered-clause-refused g c =
         number_is = rw (c.seed-seed.ensures.seed, c.base-base.ensures) at c.in_ok-number.ensures.ok;
       };
       told = rw (c.seed.ensures.seed, c.base.ensures) at c.in_err-recovered.ensures.fault;
+      caused =
+          rw (c.seed.ensures.seed, c.base.ensures, c.limits.ensures.row_limit, c.limits.ensures.recent) at c.in_err-recovered.ensures.caused;
+      named = rw (c.seed.ensures.seed, c.base.ensures) at c.in_err-recovered.ensures.named;
       sound = rw (c.seed.ensures.seed, c.base.ensures) at c.in_err-recovered.ensures.sound;
     })
 
@@ -47,6 +50,9 @@ returns-in_err-show_image-clause-refused g c =
             number_is = rw (c.seed-seed.ensures.seed, c.base-base.ensures) at c.in_ok-number.ensures.ok;
           })
           (rw (c.seed.ensures.seed, c.base.ensures) at c.in_ok-recovered.ensures.rows)
+          (rw (c.seed.ensures.seed, c.base.ensures) at c.in_ok-recovered.ensures.ending)
+          (rw (c.seed.ensures.seed, c.base.ensures) at c.in_ok-recovered.ensures.reached)
+          (rw (c.seed.ensures.seed, c.base.ensures) at c.in_ok-recovered.ensures.read)
           (rw (c.seed.ensures.seed, c.base.ensures) at c.in_ok-recovered.ensures.prefix),
     )
 
@@ -64,6 +70,9 @@ returns-clause-shown g c =
             number_is = rw (c.seed-seed.ensures.seed, c.base-base.ensures) at c.in_ok-number.ensures.ok;
           })
           (rw (c.seed.ensures.seed, c.base.ensures) at c.in_ok-recovered.ensures.rows)
+          (rw (c.seed.ensures.seed, c.base.ensures) at c.in_ok-recovered.ensures.ending)
+          (rw (c.seed.ensures.seed, c.base.ensures) at c.in_ok-recovered.ensures.reached)
+          (rw (c.seed.ensures.seed, c.base.ensures) at c.in_ok-recovered.ensures.read)
           (rw (c.seed.ensures.seed, c.base.ensures) at c.in_ok-recovered.ensures.prefix),
       subst
           (λ (rs : List Row). Appends (g.W.Write.contents c.args.out.now) (g.W.Write.contents c.show_image.new.out)
