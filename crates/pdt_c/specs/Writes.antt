@@ -1,18 +1,18 @@
 -- A write that C asked for.
-use Rattle.std.specs.Prelude.{◌≡◌, ℕ, ℤ, List, take, slice_get, Some}
+use Rattle.std.specs.Prelude.{◌≡◌, ℕ, ℤ, false, List, take, slice_get, Some}
 use Rattle.values.specs.declared.value.Value.{Value}
 use Rattle.values.specs.declared.value.ColumnType.{ColumnType}
 use Rattle.model.specs.declared.write.Write.{Write}
 use Rattle.model.specs.declared.write.Write.TheVariants.{Insert, Delete, Set}
 use Rattle.model.specs.declared.write.WriteReply.{WriteReply}
-use Rattle.txn.specs.Txn.{Transaction, IsAnswered}
+use Rattle.txn.specs.Txn.{Transaction, IsMet}
 use Rattle.pdt_c.specs.Cells.{AreGiven, IsGiven}
 use Rattle.pdt_c.specs.Told.{code_of_reply}
 
--- a write was answered, and C is told the reply that was due
+-- a write was answered, and C is told the reply that was due. A refused one leaves nothing
 pub record IsTold (old : Transaction) (write : Write) (code : ℕ) (new : Transaction) : Type 0 where
   pub reply : WriteReply
-  pub answered : IsAnswered old write reply new
+  pub answered : IsMet false old write reply new
   pub code_is : code ≡ code_of_reply reply
 
 -- the types of the key's columns

@@ -1,5 +1,5 @@
 -- A transaction with the first of its writes is one, and a mark stands as long as they are there.
-use Rattle.std.proofs.Common.{◌≡◌, ℕ, zero, suc, ◌≤◌, List, [], ◌∷◌, length, take, refl, sym, ap, ◌∙◌, subst, arith}
+use Rattle.std.proofs.Common.{◌≡◌, ℕ, zero, suc, ◌≤◌, Bool, true, false, ◌||◌, cond, List, [], ◌∷◌, length, take, refl, sym, ap, ◌∙◌, subst, arith}
 use Rattle.std.specs.List.{list_all}
 use Rattle.std.proofs.lemmas.Float.{T_from_true}
 use Rattle.std.proofs.lemmas.List.{append-nil, length-take, take_all, take-take, take-map, take-append-le, length-append}
@@ -7,8 +7,8 @@ use Rattle.model.specs.declared.write.Write.{Write}
 use Rattle.model.specs.declared.write.WriteReply.{WriteReply}
 use Rattle.model.specs.Table.{Table}
 use Rattle.model.specs.Effects.{Effects}
-use Rattle.model.specs.Writes.{write_fits_schema, effects_after, reply_to, replies_to}
-use Rattle.txn.specs.Txn.{Transaction, asked_of, tree_of, IsTransaction, IsAnswered}
+use Rattle.model.specs.Writes.{write_fits_schema, is_done, effects_after, reply_to, replies_to}
+use Rattle.txn.specs.Txn.{Transaction, asked_of, tree_of, with_write, IsTransaction, IsMet}
 use Rattle.txn.specs.Marks.{Marked, mark_of, with_first, IsMark, GoesOn, MarksStand}
 use Rattle.txn.proofs.TxnLemmas.{is_true}
 use Rattle.delta.proofs.CallerLemmas.{all_take}
@@ -61,13 +61,19 @@ pub gone_back_IsMark : (mark : Marked) (txn : Transaction) (count : ℕ) → IsM
     → IsMark mark (with_first count txn)
 gone_back_IsMark mark txn count m le = grind (arith, common_steps)
 
--- an answered write goes on
-pub answered_GoesOn : (old new : Transaction) (write : Write) (reply : WriteReply) → IsAnswered old write reply new → GoesOn old new
-answered_GoesOn old new write reply a = record { later = (write, reply) ∷ []; new_is = a.kept }
-
 -- a transaction that stays as it is goes on with no writes
 pub refused_GoesOn : (old new : Transaction) → new ≡ old → GoesOn old new
 refused_GoesOn old new same = record { later = []; new_is = same ∙ ap (with_writes old) (sym (append-nil old.writes)) }
+
+goes_on_where : (recorded : Bool) (old new : Transaction) (write : Write) (reply : WriteReply)
+    → new ≡ cond recorded (with_write old write reply) old → GoesOn old new
+goes_on_where true old new write reply kept = record { later = (write, reply) ∷ []; new_is = kept }
+goes_on_where false old new write reply kept = refused_GoesOn old new kept
+
+-- an answered write goes on, whether it is recorded or not
+pub met_GoesOn : (with_refusals : Bool) (old new : Transaction) (write : Write) (reply : WriteReply)
+    → IsMet with_refusals old write reply new → GoesOn old new
+met_GoesOn with_refusals old new write reply met = goes_on_where (with_refusals || is_done reply) old new write reply met.kept
 
 pub marks_stand : MarksStand
 marks_stand = record { made = made_IsMark; written = written_IsMark; gone_back = gone_back_IsMark }

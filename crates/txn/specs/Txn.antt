@@ -1,5 +1,5 @@
 -- What an open transaction stands for: its snapshot, and its writes with their replies.
-use Rattle.std.specs.Prelude.{◌≡◌, ℕ, ◌≤◌, Bool, IsTrue, is_some, List, [], ◌∷◌, ◌++◌, map, length}
+use Rattle.std.specs.Prelude.{◌≡◌, ℕ, ◌≤◌, Bool, ◌||◌, cond, IsTrue, is_some, List, [], ◌∷◌, ◌++◌, map, length}
 use Rattle.std.specs.List.{list_all}
 use Rattle.values.specs.Orders.{key_cmp}
 use Rattle.values.specs.Shape.{Columns, IsSchema}
@@ -11,7 +11,7 @@ use Rattle.model.specs.declared.entry.Entry.{Entry}
 use Rattle.model.specs.Maps.{find}
 use Rattle.model.specs.Table.{Table, row_at, rank, IsTable}
 use Rattle.model.specs.Effects.{Effects, table_with}
-use Rattle.model.specs.Writes.{write_fits_schema, reply_to, replies_to, effects_after_all}
+use Rattle.model.specs.Writes.{write_fits_schema, is_done, reply_to, replies_to, effects_after_all}
 use Rattle.model.specs.Entries.{canonical_entries}
 use Rattle.delta.specs.Tree.{Tree}
 use Rattle.delta.specs.Laws.{row_inserted}
@@ -79,6 +79,13 @@ pub record IsAnswered (old : Transaction) (write : Write) (reply : WriteReply) (
   pub fits : IsTrue (write_fits_schema old.schema write)
   pub due : reply ≡ answer_to old write
   pub kept : new ≡ with_write old write reply
+
+-- a write is answered: it fits the schema, and gets the reply that is due. It joins those before it where it is done, or where refusals
+-- are recorded too
+pub record IsMet (with_refusals : Bool) (old : Transaction) (write : Write) (reply : WriteReply) (new : Transaction) : Type 0 where
+  pub fits : IsTrue (write_fits_schema old.schema write)
+  pub due : reply ≡ answer_to old write
+  pub kept : new ≡ cond (with_refusals || is_done reply) (with_write old write reply) old
 
 -- what a transaction finds at a key: its place in the snapshot, whether its image has it, and whether it inserted its row
 pub record IsFound (txn : Transaction) (key : Key) (sid : ℕ) (there inserted : Bool) : Type 0 where

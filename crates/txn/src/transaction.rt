@@ -1,5 +1,5 @@
 //! A client's writes over a version of the table, kept as a delta tree (Héman et al. 2010, "Trans-PDT").
-ghost use Rattle.std.specs.Prelude.{◌≡◌, ◌+◌, ◌≤◌, [], ◌∷◌, IsTrue, IfOk, OnOk, OnErr, IsOkUnless, MatchOption, Err, length};
+ghost use Rattle.std.specs.Prelude.{◌≡◌, ◌+◌, ◌≤◌, [], ◌∷◌, false, IsTrue, IfOk, OnOk, OnErr, IsOkUnless, MatchOption, Err, length};
 ghost use Rattle.std.specs.Vec.{vec_len, vec_capacity};
 ghost use Rattle.values.specs.Shape.{row_fault, key_fault, cell_fault, or_fault};
 ghost use Rattle.values.specs.declared.limits.TheConstants.{MAX_ROWS};
@@ -16,10 +16,10 @@ use crate::mark::Mark;
 use crate::parts::{Parts, Rest};
 use crate::slot::RecordSlot;
 use crate::version::Version;
-use crate::writes::{Found, FoundRow, edit, with_shared_row};
+use crate::writes::{Found, FoundRow, check_write, edit, with_shared_row};
 use delta::{DeltaTree, Sought};
 use merge::Layers;
-use model::{CommitReply, Record, Write, WriteReply, key_of_write, reply_where};
+use model::{CommitReply, Record, Write, WriteReply, is_done, key_of_write, reply_where};
 use std::alloc::Global;
 use std::collections::LinkedList;
 use std::marker::Model;
@@ -53,7 +53,7 @@ impl Model for Txn {
 
 impl Txn {
     ghost use Rattle.txn.specs.Version.{lower_table, table_version};
-    ghost use Rattle.txn.specs.Txn.{transaction_at, entries_of, tree_of, image_of, IsTransaction, IsAnswered, IsFound};
+    ghost use Rattle.txn.specs.Txn.{transaction_at, entries_of, tree_of, image_of, IsTransaction, IsAnswered, IsMet, IsFound};
     ghost use Rattle.txn.specs.Marks.{mark_of, with_first, IsMark};
 
     /// A transaction over the version, with no writes.
@@ -229,18 +229,37 @@ impl Txn {
         ensures err { OnErr result (self.new ≡ self.old) }
     {
         let write = with_shared_row(write)?;
-        self.enter(write)
+        self.enter(write, true)
     }
 
-    /// The same, of a write whose row is shared.
-    fn enter(&mut self, write: Write) -> Result<WriteReply, NoMemory>
+    /// Answers a write as `insert`, `delete` and `set` do, and records it only where it is done. A refused write leaves nothing, so that
+    /// whoever keeps no records is refused as often as it likes without a growth.
+    ///
+    /// # Errors
+    ///
+    /// `Shape` with the first fault of the row, or of the key and then the cell, and `NoMemory` where a growth is refused: nothing
+    /// changes.
+    pub fn attempt(&mut self, write: Write) -> Result<WriteReply, WriteFault>
+        ensures ok { IfOk result (λ reply. IsMet false self.old write reply self.new) }
+        ensures err { OnErr result (self.new ≡ self.old) }
+    {
+        check_write(self.schema(), &write)?;
+        let write = with_shared_row(write)?;
+        Ok(self.enter(write, false)?)
+    }
+
+    /// Answers a write that fits the schema, whose row is shared, and records it where it is done, or where refusals are recorded too.
+    fn enter(&mut self, write: Write, with_refusals: bool) -> Result<WriteReply, NoMemory>
         requires { IsTrue (write_fits_schema self.old.schema write) }
-        ensures ok { IfOk result (λ reply. IsAnswered self.old write reply self.new) }
+        ensures ok { IfOk result (λ reply. IsMet with_refusals self.old write reply self.new) }
         ensures err { OnErr result (self.new ≡ self.old) }
     {
         let key_cols = self.schema().key_cols();
         let found = self.find(key_of_write(key_cols, &write));
         let reply = reply_where(self.row_limit, found.row.is_there(), self.len(), &write);
+        if !with_refusals && !is_done(reply) {
+            return Ok(reply);
+        }
         reserve_one(&mut self.writes)?;
         let alloc = *self.writes.allocator();
         edit(alloc, &mut self.tree, found, &write, reply)?;

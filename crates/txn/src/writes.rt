@@ -3,7 +3,7 @@ ghost use Rattle.std.specs.Prelude.{◌≡◌, ◌<◌, ◌≤◌, ◌^◌, ◌&
 ghost use Rattle.std.specs.Option.{option_copied};
 ghost use Rattle.values.specs.declared.limits.TheConstants.{MAX_ROWS};
 ghost use Rattle.model.specs.Entries.{are_ordered};
-ghost use Rattle.model.specs.Writes.{is_done, key_of_write};
+ghost use Rattle.model.specs.Writes.{is_done, key_of_write, write_fits_schema};
 ghost use Rattle.delta.specs.BySid.{is_deleted};
 ghost use Rattle.delta.specs.Changes.{entries_with, IsRun, MayBePut};
 ghost use Rattle.delta.specs.Search.{insert_cmp, past_cmp, stands_before, IsSplit};
@@ -13,7 +13,7 @@ ghost use Rattle.txn.specs.Edit.{edited, is_inserted, is_kept, is_there, MayBeEd
 use delta::{BaseChange, DeltaTree, SharedEntry, SidPlace};
 use model::{Change, Entry, Write, WriteReply, is_done};
 use std::alloc::Global;
-use values::{NoMemory, Row};
+use values::{NoMemory, Row, Schema, ShapeFault};
 
 /// What a transaction finds at a key.
 #[derive(Clone, Copy)]
@@ -82,6 +82,24 @@ impl FoundRow {
         match self {
             FoundRow::Kept => true,
             FoundRow::Absent | FoundRow::Inserted | FoundRow::Modified => false,
+        }
+    }
+}
+
+/// Tests a write against the columns. Takes no memory.
+///
+/// # Errors
+///
+/// The first fault of the row, or of the key and then the cell.
+pub(crate) fn check_write(schema: &Schema, write: &Write) -> Result<(), ShapeFault>
+    ensures { OnOk result (IsTrue (write_fits_schema schema.now write.now)) }
+{
+    match write {
+        Write::Insert(row) => schema.check_row(row),
+        Write::Delete(key) => schema.check_key(key),
+        Write::Set(key, col, value) => {
+            schema.check_key(key)?;
+            schema.check_cell(*col, value)
         }
     }
 }

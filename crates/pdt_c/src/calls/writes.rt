@@ -7,6 +7,7 @@ ghost use Rattle.pdt_c.specs.declared.codes.TheConstants.{NO_MEMORY, SHAPE};
 use crate::codes::{SHAPE, code_of_cells, code_of_fault, code_of_reply};
 use crate::given::cells::{CellFault, given_cell, given_cells};
 use crate::handles::transaction::{Transaction, put, take};
+use model::Write;
 use std::alloc::Global;
 use txn::Txn;
 use values::{Key, Row};
@@ -40,7 +41,7 @@ fn insert(alloc: Global, txn: &mut Txn, numbers: &[i64], texts: &[u8]) -> u32
         Ok(cells) => cells,
         Err(fault) => return code_of_cells(fault),
     };
-    match txn.insert(Row::new(cells)) {
+    match txn.attempt(Write::Insert(Row::new(cells))) {
         Ok(reply) => code_of_reply(reply),
         Err(fault) => code_of_fault(fault),
     }
@@ -91,7 +92,7 @@ fn delete(alloc: Global, txn: &mut Txn, numbers: &[i64], texts: &[u8]) -> u32
         Ok(key) => key,
         Err(fault) => return code_of_cells(fault),
     };
-    match txn.delete(&key) {
+    match txn.attempt(Write::Delete(key)) {
         Ok(reply) => code_of_reply(reply),
         Err(fault) => code_of_fault(fault),
     }
@@ -117,15 +118,15 @@ pub extern "C" fn pdtr_set(
 {
     let mut open = take(alloc, txn);
     let code = match given_key(alloc, &open.txn, numbers, texts) {
-        Ok(key) => set(alloc, &mut open.txn, &key, col, number, text),
+        Ok(key) => set(alloc, &mut open.txn, key, col, number, text),
         Err(fault) => code_of_cells(fault),
     };
     put(txn, open);
     code
 }
 
-fn set(alloc: Global, txn: &mut Txn, key: &Key, col: usize, number: i64, text: &[u8]) -> u32
-    ensures told { result ≢ SHAPE → result ≢ NO_MEMORY → SetsCell key.now col number text.now txn.old result txn.new }
+fn set(alloc: Global, txn: &mut Txn, key: Key, col: usize, number: i64, text: &[u8]) -> u32
+    ensures told { result ≢ SHAPE → result ≢ NO_MEMORY → SetsCell key col number text.now txn.old result txn.new }
     ensures refused { (result ≡ SHAPE) ⊎ (result ≡ NO_MEMORY) → txn.new ≡ txn.old }
 {
     let ty = match txn.schema().types().get(col) {
@@ -136,7 +137,7 @@ fn set(alloc: Global, txn: &mut Txn, key: &Key, col: usize, number: i64, text: &
         Ok(cell) => cell,
         Err(fault) => return code_of_cells(fault),
     };
-    match txn.set(key, col, cell) {
+    match txn.attempt(Write::Set(key, col, cell)) {
         Ok(reply) => code_of_reply(reply),
         Err(fault) => code_of_fault(fault),
     }

@@ -1,4 +1,5 @@
-use Rattle.txn.proofs.CallerLemmas.{answered_GoesOn}
+use Rattle.std.proofs.Common.{false}
+use Rattle.txn.proofs.CallerLemmas.{met_GoesOn}
 use Rattle.pdt_c.proofs.MarkLemmas.{goes_on, told_GoesOn}
 use Rattle.pdt_c.proofs.calls.writes.pdtr_insert.Goals as goal
 
@@ -8,5 +9,5 @@ invariant_of-behind-open c =
     let new = c.insert-code.new.txn in
     goes_on inside.txn new inside.marks.items c.behind-open.invariant
     (told_GoesOn c.insert-code.result inside.txn new
-    (λ fits had. let told = (c.insert-code.ensures.told fits had).told in answered_GoesOn inside.txn new _ told.reply told.answered)
+    (λ fits had. let told = (c.insert-code.ensures.told fits had).told in met_GoesOn false inside.txn new _ told.reply told.answered)
     c.insert-code.ensures.refused)
