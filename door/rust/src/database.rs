@@ -210,9 +210,9 @@ impl Database {
         let mut names = Vec::new();
         names.try_reserve_exact(tables)?;
         for index in (0..tables).rev() {
-            // from the last one: a drop meanwhile moves later tables to the front, so that one comes twice, and none is
+            // from the last one: a drop meanwhile moves later tables to the front, so that some come twice, and none is
             // left out
-            if let Some(name) = self.name_at(index)?.filter(|name| names.last() != Some(name)) {
+            if let Some(name) = self.name_at(index)?.filter(|name| !names.contains(name)) {
                 names.push(name);
             }
         }

@@ -194,7 +194,7 @@ impl TableFault {
         // SAFETY: the cause is never null then, ends with a zero, and is there as long as the program.
         let cause = unsafe { CStr::from_ptr::<'static>(fault.cause) };
         let ffi::Place { row, column } = fault.place;
-        TableFault { record: row, column, cause: cause.to_str().unwrap_or("the text or the columns don't describe a table") }
+        TableFault { record: row, column, cause: cause.to_str().unwrap_or("no table") }
     }
 }
 

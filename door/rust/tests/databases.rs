@@ -8,6 +8,7 @@ use narthexmace::{
 };
 use std::path::Path;
 use std::sync::Arc;
+use std::sync::atomic::{AtomicBool, Ordering};
 use std::time::Duration;
 use std::{fs, thread};
 
@@ -136,6 +137,29 @@ fn threads_take_and_drop_a_table() {
         }
     });
     assert_eq!(vec!["kept"], database.names().unwrap());
+}
+
+#[test]
+fn a_name_comes_once_where_tables_move_meanwhile() {
+    let folder = Folder::new("moving");
+    let all = ["t0", "t1", "t2", "t3", "t4", "kept"];
+    let database = made(&folder, &all);
+    let done = AtomicBool::new(false);
+    thread::scope(|threads| {
+        threads.spawn(|| {
+            while !done.load(Ordering::Relaxed) {
+                let names = database.names().unwrap();
+                let times = |name: &str| names.iter().filter(|it| *it == name).count();
+                assert_eq!(1, times("kept"));
+                assert!(all.iter().all(|name| times(name) <= 1), "{names:?}");
+            }
+        });
+        for name in all[..5].iter().cycle().take(40) {
+            database.drop_table(name).unwrap();
+            database.create(name, ITEMS, &Options::default()).unwrap();
+        }
+        done.store(true, Ordering::Relaxed);
+    });
 }
 
 /// Five commits over one table, and nothing made of them: the journal has them all.

@@ -24,7 +24,10 @@ fn a_text_that_is_no_table_has_its_first_fault_told() {
     for (csv, record, column, cause) in cases {
         let refused = Store::open(csv, &Options::default()).unwrap_err();
         assert_eq!(OpenError::BadTable(TableFault { record, column, cause }), refused);
-        assert_eq!(format!("the text or the columns don't describe a table: record {record}, column {column}: {cause}"), refused.to_string());
+        assert_eq!(
+            format!("the text or the columns don't describe a table: record {record}, column {column}: {cause}"),
+            refused.to_string()
+        );
     }
 }
 
