@@ -328,6 +328,10 @@ class Drawn(unittest.TestCase):
         if got != due:
             self.fail(f"{where}: {repr(got)[:2000]}, and due is {repr(due)[:2000]}")
 
+    def tell(self, made: int, seed: int) -> None:
+        if os.environ.get("NARTHEXMACE_TOLD"):
+            print(f"\n{made} calls, seeds {SEED} to {seed - 1}")
+
     def test_a_table_of_a_database_is_a_store(self) -> None:
         made, seed = 0, SEED
         with Watch() as watch:
@@ -339,6 +343,7 @@ class Drawn(unittest.TestCase):
                     made += 1
                 self.compare(f"seed {seed}, at the end", run.end(), run.model.image())
                 seed += 1
+        self.tell(made, seed)
 
     def test_works_are_answered_as_the_model_answers_them(self) -> None:
         made, seed = 0, SEED
@@ -351,6 +356,7 @@ class Drawn(unittest.TestCase):
                     made += 1
                 self.compare(f"seed {seed}, at the end", *run.end())
                 seed += 1
+        self.tell(made, seed)
         if CALLS >= 5000:
             names = (wanted_of_databases() - NEVER) | CLAUSES
             self.assertEqual(names - set(watch.drawn), set(), "names that were never drawn")

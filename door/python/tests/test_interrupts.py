@@ -2,7 +2,7 @@
 
 A timer raises KeyboardInterrupt at a drawn moment, as SIGINT does. Each interrupt has to come as KeyboardInterrupt, none is
 lost; the rows are those of a commit that was made or wasn't, and in the end everything closes. NARTHEXMACE_INTERRUPTS is
-how many there are of each test (else 300), NARTHEXMACE_SEED their seed. With NARTHEXMACE_TELLS it prints what was done.
+how many there are of each test (else 300), NARTHEXMACE_SEED their seed. With NARTHEXMACE_TOLD it prints what was done.
 """
 import gc
 import os
@@ -57,7 +57,7 @@ class Interrupts(unittest.TestCase):
                 self.works(work, count, self.draw.uniform(SOONEST, latest))
             self.assertEqual((self.raised, [str(it.exc_value) for it in self.lost]), (count, []))
             then()
-        if os.environ.get("NARTHEXMACE_TELLS"):
+        if os.environ.get("NARTHEXMACE_TOLD"):
             print(f"{self.id()}: {self.raised} interrupts, {dict(self.done)}")
 
     def works(self, work: Callable[[], None], count: int, seconds: float) -> None:
