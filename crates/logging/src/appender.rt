@@ -3,6 +3,7 @@ ghost use Rattle.std.specs.Prelude.{◌≡◌, ℕ, ◌<◌, ◌≤◌, ◌^◌,
 ghost use Rattle.journal.specs.Frame.{frame_bytes};
 ghost use Rattle.journal.specs.Reading.{logged_in};
 ghost use Rattle.logging.specs.Log.{IsGivenUp, with_safe};
+ghost use Rattle.logging.specs.declared.fault.LogFault.TheVariants as log_fault;
 
 use crate::device::{DeviceFault, JournalDevice};
 use crate::fault::LogFault;
@@ -72,11 +73,12 @@ impl<D: JournalDevice> Appender<D> {
     ///
     /// # Errors
     ///
-    /// `DeviceFailed` where the device took only a part of them, or can't say that they are safe.
+    /// `DeviceFailed` alone: the device took only a part of them, or can't say that they are safe.
     pub fn log_batch(&mut self, frames: &[u8]) -> Result<(), LogFault>
         requires sound { self.old.device.failures ≡ 0 }
         ensures ok { OnOk result (self.new ≡ with_safe frames.now self.old) }
         ensures err { IfErr result (λ fault. IsGivenUp frames.now self.old fault self.new) }
+        ensures failed { IfErr result (λ fault. fault ≡ log_fault.DeviceFailed) }
     {
         match append_safely(&mut self.device, frames) {
             Ok(()) => Ok(()),

@@ -10,7 +10,7 @@ invariant_of-self g c =
     let payloads = g.T.Chronicle.payloads in
     let j = g.J.Journaling in
     let sound = sound_is _ (ap (λ (d : Desked). nat_lt 0 d.log.device.failures) c.self.view_is ∙ sym c.has_failed.ensures ∙ c.if-has_failed.false) in
-    let from = c.is_as.ensures c.if-not-is_as.false in
+    let from = c.is_as.ensures.same c.if-not-is_as.false in
     let waiting = subst (λ w. IsWaiting j.seed j.base w (payloads c.args.upto) c.args.bytes.now) from c.requires.waiting in
     let i = c.self.invariant in (
       subst (λ (e : Log × List (List ℕ)). Holds j.front j.base j.seed
@@ -25,7 +25,7 @@ invariant_of-self-in-Err-DeviceFailed g c =
     let payloads = g.T.Chronicle.payloads in
     let j = g.J.Journaling in
     let sound = sound_is _ (ap (λ (d : Desked). nat_lt 0 d.log.device.failures) c.self.view_is ∙ sym c.has_failed.ensures ∙ c.if-has_failed.false) in
-    let from = c.is_as.ensures c.if-not-is_as.false in
+    let from = c.is_as.ensures.same c.if-not-is_as.false in
     let waiting = subst (λ w. IsWaiting j.seed j.base w (payloads c.args.upto) c.args.bytes.now) from c.requires.waiting in
     let i = c.self.invariant in
     let err = subst (λ f. IsGivenUp c.args.bytes.now c.self.inside.journal f c.log_batch.new.self) c.in-Err-DeviceFailed.field-0-is c.in-Err-DeviceFailed.ensures.err in (
