@@ -4,6 +4,7 @@ use Rattle.std.proofs.Common.{nat_lt, false, ◌≡◌, ℕ, zero, suc, ◌+◌,
 use Rattle.std.proofs.Math.Seq.{take-append-add}
 use Rattle.std.proofs.lemmas.List.{append-nil, append_assoc, length-map, map-append}
 use Rattle.std.proofs.lemmas.List.Concat.{flat_map-cons}
+use Rattle.std.proofs.lemmas.List.Elements.{All-append, All-nil, All-push, All-weaker}
 use Rattle.journal.specs.Crash.{IsLeft}
 use Rattle.journal.specs.Frame.{AreLogged, Logged, frame_bytes, journal_bytes}
 use Rattle.journal.specs.Laws.{AJournalGoesOn}
@@ -12,16 +13,21 @@ use Rattle.logging.specs.Laws.{ADeviceLeavesABatch}
 use Rattle.logging.specs.Log.{FailsOver, with_safe}
 use Rattle.grouped.specs.Held.{Desked, Holds, HoldsNow}
 use Rattle.grouped.specs.Laws.{ABatchAtAnyMoment, ACrashLeavesWhatIsVouchedFor, WaitingGoesOn}
-use Rattle.grouped.specs.Waiting.{IsWaiting, payloads_of}
+use Rattle.grouped.specs.Waiting.{IsWaiting, SayAtMost, payloads_of}
 
 alone : (seed : ℕ) (l : Logged) → journal_bytes seed (l ∷ []) ≡ frame_bytes seed l
 alone seed l = flat_map-cons (frame_bytes seed) l [] ∙ append-nil (frame_bytes seed l)
+
+-- frames that say so much say no more than a later commit
+say_more : (n m : ℕ) (logged : List Logged) → n ≤ m → SayAtMost n logged → SayAtMost m logged
+say_more n m logged le known =
+    All-weaker (λ (l : Logged). l.synced ≤ n) (λ (l : Logged). l.synced ≤ m) (λ l k. omega (arith, k, le)) logged known
 
 count_of : (logged : List Logged) (payloads : List (List ℕ)) → payloads_of logged ≡ payloads → length logged ≡ length payloads
 count_of logged payloads is = sym (length-map _ _) ∙ ap (λ (p : List (List ℕ)). length p) is
 
 pub waiting_goes_on : AJournalGoesOn → WaitingGoesOn
-waiting_goes_on goes_on seed base from upto bytes l is number fits =
+waiting_goes_on goes_on seed base from upto bytes l is number fits known =
     let counted : length upto ≡ length from + length is.logged =
     ap (λ (p : List (List ℕ)). length p) is.added ∙ length-append from (payloads_of is.logged)
     ∙ ap (λ n. length from + n) (length-map _ _) in
@@ -35,6 +41,7 @@ waiting_goes_on goes_on seed base from upto bytes l is number fits =
           ap (λ (p : List (List ℕ)). p ++ l.payload ∷ []) is.added
           ∙ append_assoc from (payloads_of is.logged) (l.payload ∷ [])
           ∙ ap (λ (p : List (List ℕ)). from ++ p) (sym (map-append (λ (f : Logged). f.payload) is.logged (l ∷ [])));
+      known = All-push (λ (f : Logged). f.synced ≤ base + length from) is.logged l is.known known;
     }
 
 -- nothing was tried besides
@@ -78,6 +85,8 @@ a_batch_at_any_moment goes_on front base seed d upto bytes now held sound is mid
           ∙ append_assoc front (journal_bytes seed h.logged) (take midst.taken bytes)
           ∙ ap (λ (b : List ℕ). front ++ (journal_bytes seed h.logged ++ take midst.taken b)) is.spelt;
       safe = omega (arith, safe, kept);
+      known = All-append (λ (l : Logged). l.synced ≤ base + length d.written) h.logged is.logged
+          (subst (SayAtMost (base + length d.written)) same h.known) is.known;
     }
 
 -- what a device leaves of bytes behind others that are safe
@@ -138,6 +147,7 @@ at_first front base seed d appended safe is written tried vouched =
         taken = 0;
         appended = appended ∙ sym (append-nil front);
         safe = omega (arith, safe, same);
+        known = All-nil (λ (l : Logged). l.synced ≤ base + length d.written);
       };
       all = λ _. refl;
       seed_is = is;
@@ -174,6 +184,9 @@ when_written goes_on front base seed d upto bytes held sound is =
     ∙ ap (λ (b : List ℕ). front ++ b) (sym both.1) in
     let size = ap (λ (b : List ℕ). length b) appended in
     let vouched = held.vouched in
+    let said : SayAtMost (base + length d.written) logged =
+    All-append (λ (l : Logged). l.synced ≤ base + length d.written) h.logged is.logged
+    (subst (SayAtMost (base + length d.written)) same h.known) is.known in
     let longer : length upto ≡ length d.written + length (payloads_of is.logged) =
     ap (λ (p : List (List ℕ)). length p) is.added ∙ length-append d.written (payloads_of is.logged) in
     record {
@@ -186,6 +199,9 @@ when_written goes_on front base seed d upto bytes held sound is =
         taken = 0;
         appended = appended ∙ ap (λ (b : List ℕ). front ++ b) (sym (append-nil (journal_bytes seed logged)));
         safe = omega (arith, size);
+        known =
+            subst (SayAtMost (base + length upto)) (sym (append-nil logged))
+            (say_more (base + length d.written) (base + length upto) logged (omega (arith, longer)) said);
       };
       all = λ _. refl;
       seed_is = held.seed_is;

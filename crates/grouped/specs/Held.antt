@@ -5,7 +5,7 @@ use Rattle.logging.specs.Device.{Device}
 use Rattle.logging.specs.Log.{FailsOver, Log}
 use Rattle.grouped.specs.declared.fault.WriteFault.{WriteFault}
 use Rattle.grouped.specs.declared.fault.WriteFault.TheVariants.{Unsure, Failed}
-use Rattle.grouped.specs.Waiting.{payloads_of}
+use Rattle.grouped.specs.Waiting.{SayAtMost, payloads_of}
 
 -- the log, the payloads of the commits that are written, those with the ones that were tried last, and the number up to which is
 -- vouched
@@ -16,7 +16,7 @@ pub record Desked : Type 0 where
   pub vouched : ℕ
 
 -- at any moment: behind what was at the front the device was handed the frames of all that is written, which it has said to be
--- safe, and some beginning of those of what was tried
+-- safe, and some beginning of those of what was tried. None of these frames says more to be safe
 pub record HoldsNow (front : List ℕ) (base : ℕ) (seed : ℕ) (device : Device) (written tried : List (List ℕ)) : Type 0 where
   pub logged : List Logged
   pub more : List Logged
@@ -26,6 +26,7 @@ pub record HoldsNow (front : List ℕ) (base : ℕ) (seed : ℕ) (device : Devic
   pub taken : ℕ
   pub appended : device.appended ≡ front ++ (journal_bytes seed logged ++ take taken (journal_bytes seed more))
   pub safe : length (front ++ journal_bytes seed logged) ≤ device.safe
+  pub known : SayAtMost (base + length written) (logged ++ more)
 
 -- between two calls: and as long as nothing failed nothing else was tried. No more is vouched for than is written
 pub record Holds (front : List ℕ) (base : ℕ) (seed : ℕ) (d : Desked) : Type 0 where
