@@ -19,11 +19,11 @@ alone : (seed : ℕ) (l : Logged) → journal_bytes seed (l ∷ []) ≡ frame_by
 alone seed l = flat_map-cons (frame_bytes seed) l [] ∙ append-nil (frame_bytes seed l)
 
 -- frames that say so much say no more than a later commit
-say_more : (n m : ℕ) (logged : List Logged) → n ≤ m → SayAtMost n logged → SayAtMost m logged
+pub say_more : (n m : ℕ) (logged : List Logged) → n ≤ m → SayAtMost n logged → SayAtMost m logged
 say_more n m logged le known =
     All-weaker (λ (l : Logged). l.synced ≤ n) (λ (l : Logged). l.synced ≤ m) (λ l k. omega (arith, k, le)) logged known
 
-count_of : (logged : List Logged) (payloads : List (List ℕ)) → payloads_of logged ≡ payloads → length logged ≡ length payloads
+pub count_of : (logged : List Logged) (payloads : List (List ℕ)) → payloads_of logged ≡ payloads → length logged ≡ length payloads
 count_of logged payloads is = sym (length-map _ _) ∙ ap (λ (p : List (List ℕ)). length p) is
 
 pub waiting_goes_on : AJournalGoesOn → WaitingGoesOn
@@ -128,6 +128,7 @@ a_crash_leaves leaves front base seed device written tried bytes h left =
             spelt = refl;
           })
           chance),
+      h.known,
     )
 
 -- ---- the desk between two calls
