@@ -1,0 +1,2 @@
+pub mod GroupLogLemmas
+pub mod ReopenedLemmas

@@ -1,0 +1,4 @@
+pub mod Batch
+pub mod GroupLog
+pub mod Laws
+pub mod Reopened

@@ -1,8 +1,0 @@
-use Rattle.std.proofs.Common.{[], ◌∷◌, rules, sym, ◌∙◌, arith}
-use Rattle.level.proofs.Moves.{raises_as}
-use Rattle.level.proofs.level.Raiser.raise.Goals as goal
-
-pub swap_as-requires : goal.swap_as-requires
-swap_as-requires g c =
-    let i = c.self.invariant in
-    (search rules, (search rules, (i.0 ∙ sym c.level.invariant, raises_as _ _ c.self.inside.height (c.args.to ∷ []) i.1 (let le = c.requires in let v = c.self.view_is in omega (arith, le, v)))))
