@@ -18,7 +18,7 @@ KNOWN = re.compile("|".join((
     r"by-macro: |long terms are shown computed here",
     r"so far: \d+ of \d+ functions checked",
     r"(struct|enum|union|impl|trait|type|const|static|law) \S.*: (proved$|not proved)",
-    r"fn \S+: (proved$|proved where its callers give what it asks$|not proved|no proof: )",
+    r"fn \S+: (proved$|proved, may wait$|proved where its callers give what it asks$|not proved|no proof: )",
     r"(note|help|warning): ",
     r"\./proofs/\S+\.antt:\d+:\d+: (error|note|warning): ",
     r"(logic /|axioms )\S+: ",
