@@ -49,7 +49,8 @@ impl<T: HistoryPrefix, D: JournalDevice, J: JournalId> Model for GroupLog<T, D, 
     ghost view = { λ d. record { log = d.journal; written = T.payloads d.written; tried = T.payloads d.tried; watermark = d.writer } };
 
     ghost invariant = { λ d.
-        Holds J.front J.base J.seed (record { log = d.journal; written = T.payloads d.written; tried = T.payloads d.tried; watermark = d.writer })
+        Holds J.front J.base J.seed (record
+        { log = d.journal; written = T.payloads d.written; tried = T.payloads d.tried; watermark = d.writer })
         × (d.number ≡ J.base + length (T.payloads d.written)) };
 }
 
@@ -98,23 +99,24 @@ impl<T: HistoryPrefix, D: JournalDevice, J: JournalId> GroupLog<T, D, J> {
         &self.written
     }
 
-    /// Appends a batch and syncs the device. It doesn't wait and it always returns, so that a crash at any moment in it is between
-    /// what holds before and after (`a_batch_at_any_moment`). Takes no memory.
+    /// Appends a batch and syncs the device. It may not wait, so it always returns, and what the log holds during it is the law
+    /// `a_batch_at_any_moment`. Takes no memory.
     ///
     /// # Errors
     ///
     /// `Failed` if the device had failed before, or the batch doesn't follow the last one: nothing is appended. `Unsure` if the device
     /// fails during this write. Nothing else is refused.
     pub fn write(&mut self, from: &T, to: T, number: u64, bytes: &[u8]) -> Result<(), WriteFault>
-        requires waiting { IsBatch J.seed J.base (T.payloads from.now) (T.payloads to) bytes.now }
+        requires batch { IsBatch J.seed J.base (T.payloads from.now) (T.payloads to) bytes.now }
         requires number { number ≡ J.base + length (T.payloads to) }
-        ensures ok { OnOk result (self.new ≡ record self.old { log = with_safe bytes.now self.old.log; written = T.payloads to; tried = T.payloads to }) }
+        ensures ok { OnOk result (self.new ≡ record self.old
+            { log = with_safe bytes.now self.old.log; written = T.payloads to; tried = T.payloads to }) }
         ensures next { OnOk result (self.old.written ≡ T.payloads from.now) }
         ensures err { IfErr result (λ fault. IsRefused fault bytes.now (T.payloads to) self.old self.new) }
         ensures cause { result ≡ Err write_fault.Failed
             → (0 < self.old.log.device.failures) ⊎ (T.payloads from.now ≢ self.old.written) }
     {
-        // Called for what its clause tells.
+        // Called for its clause.
         a_journal_goes_on();
         if self.has_failed() {
             return Err(WriteFault::Failed);
@@ -133,6 +135,7 @@ impl<T: HistoryPrefix, D: JournalDevice, J: JournalId> GroupLog<T, D, J> {
                 self.tried = to;
                 Err(WriteFault::Unsure)
             }
+            // It takes no memory, so this isn't answered.
             Err(LogFault::NoMemory) => Err(WriteFault::Failed),
         }
     }
@@ -162,7 +165,8 @@ impl<T: HistoryPrefix, D: JournalDevice, J: JournalId> GroupLog<T, D, J> {
 
     /// The journal, and the commits that are written to it.
     pub fn into_parts(self) -> GroupLogParts<T, D>
-        ensures holds { Holds J.front J.base J.seed (record { log = result.journal; written = T.payloads result.written; tried = T.payloads result.tried; watermark = self.watermark }) }
+        ensures holds { Holds J.front J.base J.seed (record
+            { log = result.journal; written = T.payloads result.written; tried = T.payloads result.tried; watermark = self.watermark }) }
         ensures log { result.journal ≡ self.log }
         ensures written { T.payloads result.written ≡ self.written }
         ensures tried { T.payloads result.tried ≡ self.tried }

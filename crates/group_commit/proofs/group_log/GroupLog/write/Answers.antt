@@ -11,7 +11,7 @@ invariant_of-self g c =
     let j = g.J.JournalId in
     let sound = sound_is _ (ap (λ (d : GroupLogState). nat_lt 0 d.log.device.failures) c.self.view_is ∙ sym c.has_failed.ensures ∙ c.if-has_failed.false) in
     let from = c.has_same_commits.ensures.same c.if-not-has_same_commits.false in
-    let waiting = subst (λ w. IsBatch j.seed j.base w (payloads c.args.to) c.args.bytes.now) from c.requires.waiting in
+    let waiting = subst (λ w. IsBatch j.seed j.base w (payloads c.args.to) c.args.bytes.now) from c.requires.batch in
     let i = c.self.invariant in (
       subst (λ (e : Log × List (List ℕ)). Holds j.front j.base j.seed
           (record { log = e.0; written = payloads c.args.to; tried = e.1; watermark = c.self.inside.writer }))
@@ -26,7 +26,7 @@ invariant_of-self-in-Err-DeviceFailed g c =
     let j = g.J.JournalId in
     let sound = sound_is _ (ap (λ (d : GroupLogState). nat_lt 0 d.log.device.failures) c.self.view_is ∙ sym c.has_failed.ensures ∙ c.if-has_failed.false) in
     let from = c.has_same_commits.ensures.same c.if-not-has_same_commits.false in
-    let waiting = subst (λ w. IsBatch j.seed j.base w (payloads c.args.to) c.args.bytes.now) from c.requires.waiting in
+    let waiting = subst (λ w. IsBatch j.seed j.base w (payloads c.args.to) c.args.bytes.now) from c.requires.batch in
     let i = c.self.invariant in
     let err = subst (λ f. IsGivenUp c.args.bytes.now c.self.inside.journal f c.log_batch.new.self) c.in-Err-DeviceFailed.field-0-is c.in-Err-DeviceFailed.ensures.err in (
       subst (λ (n : ℕ). Holds j.front j.base j.seed
