@@ -20,13 +20,6 @@ fits_set seat watermark now views by w others mine j u e =
     (λ (x : (j ≢ by) × (get_elem? views j ≡ some u)). others j u x.0 x.1)
     (at_set views by j w u e)
 
-pub begins : IsHighest (0 ∷ []) (writer_at 0 ∷ [])
-begins = (0, one)
-  where
-    one : (by : ℕ) (v : View) → get_elem? (writer_at 0 ∷ []) by ≡ some v → Fits 0 0 by v
-    one zero v e = subst (Fits 0 0 0) (some-injective _ _ e) ((λ _. (refl, refl)), (omega arith), (omega arith))
-    one (suc by) v e = absurd (some-ne-none v (sym e))
-
 pub writes : (by n : ℕ) (new : List ℕ) → n ≤ slice_index new 0 → Turns IsHighest by (writer_at n) (λ _. new) Advanced
 writes by n new le words views h at =
     let mine = (h.1 by (writer_at n) at).0 refl in
