@@ -111,7 +111,7 @@ module _ (O : RattleType) (g : opening.Ghosts O.Denot) (h : ledger.Ghosts O.Deno
   ))
 
 module _ (O S : RattleType) (g : opening.Ghosts O.Denot) (h : ledger.Ghosts O.Denot) (i : store.Ghosts S.Denot) (s : IsSend S) where
-  locked_send : IsSend (Locked.the_row O S g h i)
+  pub locked_send : IsSend (Locked.the_row O S g h i)
   locked_send = view_send _ _ _ _ _ (declared_send (locked.the_type O S g h i) (
     as_row_send Manager.the_field manager_send,
     (

@@ -25,7 +25,7 @@ due_numbered false true full n reply is = subst (λ (r : CommitReply). HasNumber
 due_numbered false false true n reply is = subst (λ (r : CommitReply). HasNumber r n) (sym is) refl
 due_numbered false false false n reply is = subst (λ (r : CommitReply). HasNumber r n) (sym is) refl
 
-numbered_due : (m : Managed) (txn : Transaction) (reply : CommitReply) → reply ≡ reply_due m txn → HasNumber reply (newest_number m)
+pub numbered_due : (m : Managed) (txn : Transaction) (reply : CommitReply) → reply ≡ reply_due m txn → HasNumber reply (newest_number m)
 numbered_due m txn reply due =
     due_numbered (is_too_old m txn) (list_any (conflicts m.start.rule (effects_of txn)) (commits_since m txn))
     (nat_lt m.start.limit (length (table_with (newest_table m) (effects_of txn)))) (newest_number m) reply due

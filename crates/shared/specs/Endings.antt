@@ -48,3 +48,7 @@ pub record IsClosed (o : Managed) (seats : List Seat) (m : Managed) : Type 0 whe
   pub listed : IsListed o list m
   pub seen : All (λ (s : Seat). AreOfOneList s.seen list) seats
   pub goes_on : GoesOn o m
+
+-- and another list is a beginning of the same one
+abbrev pub IsClosedWith : Managed → List Seat → Managed → List Item → Type 0
+IsClosedWith o seats m also = (closed : IsClosed o seats m) × AreOfOneList also closed.list

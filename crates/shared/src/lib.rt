@@ -20,7 +20,8 @@ mod told;
 
 pub use fault::{BeginFault, CommitFault, NotOpen, SessionFault, ShareFault};
 pub use laws::{begins_after_its_commits, keeps_what_it_had};
-pub use session::Session;
-pub use shared::{Closed, NewOpening, Shared, open};
+pub use locked::{Locked, Refused, Unlocked};
+pub use session::{EndedSession, Session};
+pub use shared::{Closed, NewOpening, Parts, Shared, close_parts, open, open_parts};
 pub use store::ImageStore;
 pub use told::Told;

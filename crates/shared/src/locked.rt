@@ -1,7 +1,8 @@
 //! What lies under the lock: the manager with its store, and what publishes its versions.
 ghost use Rattle.std.specs.Prelude.{◌≡◌, ◌+◌, ◌<◌, ◌≤◌, ◌^◌, [], IfErr, IfOk, MatchResult, OnErr, OnOk};
 ghost use mathlib.Core.List.{IsPrefix};
-ghost use Rattle.manager.specs.Managed.{HasFolded, IsDecided, IsManaged, cut_of, history_of, newest_number, rebuilt_of};
+ghost use Rattle.manager.specs.Managed.{HasFolded, IsDecided, IsManaged, IsOwn, cut_of, history_of, newest_number, rebuilt_of};
+ghost use Rattle.manager.specs.Prepared.{IsPrepared};
 ghost use Rattle.txn.specs.Txn.{effects_of};
 ghost use Rattle.model.specs.History.{IsLegal};
 ghost use Rattle.publishing.specs.Lists.{IsBegun, IsCutAfter, IsListed, IsOfList, IsShownAgain, layered_version, number_in};
@@ -13,7 +14,7 @@ ghost use Rattle.shared.specs.Stands.{IsGrown, IsReleased, IsShownAfter, IsShown
 use crate::laws::kept;
 use crate::publisher::Publisher;
 use crate::store::{ImageStore, exchange};
-use manager::{CheckpointFault, History, Manager, Released};
+use manager::{CheckpointFault, History, Manager, Prepared, Released};
 use model::CommitReply;
 use publishing::{Opening, SeenList};
 use std::marker::Model;
@@ -48,13 +49,13 @@ pub struct Locked<O: Opening, S: ImageStore> {
 
 /// What lay under the lock, once readers find nothing any more.
 pub struct Unlocked<O: Opening, S: ImageStore> {
-    pub(crate) manager: Manager,
-    pub(crate) store: S,
-    pub(crate) book: Book<O>,
+    pub manager: Manager,
+    pub store: S,
+    pub book: Book<O>,
     /// A share with no part.
-    pub(crate) rest: Share<O>,
+    pub rest: Share<O>,
     /// All that was published.
-    pub(crate) list: SeenList,
+    pub list: SeenList,
 }
 
 impl<O: Opening, S: ImageStore> Model for Locked<O, S> {
@@ -107,24 +108,68 @@ impl<O: Opening, S: ImageStore> Locked<O, S> {
         }
     }
 
-    /// Commits the transaction of a session that has seen some of the list: learns what the session has seen, prepares,
-    /// publishes, installs, and tells the session. The session has then seen the whole list. What the commit lets go of comes
-    /// out, so that the caller frees it without the lock.
+    /// The manager, to read. Takes no memory.
+    pub fn manager(&self) -> &Manager
+        ensures manager { result.now ≡ self.now.manager }
+        ensures listed { IsListed O.opened.manager self.now.list self.now.manager }
+    {
+        &self.manager
+    }
+
+    /// All that was published. Takes no memory.
+    pub fn list(&self) -> SeenList
+        ensures list { result.list ≡ self.now.list }
+        ensures opening { result.opening ≡ O.opened }
+    {
+        self.publisher.list()
+    }
+
+    /// What a commit of the transaction of a session that has seen some of the list is to do. Nothing changes.
     ///
     /// # Errors
     ///
-    /// `Stranger` where the session has seen more commits than the manager holds, and `NoMemory` where a growth is refused:
-    /// nothing changes, and the transaction comes back.
+    /// `Stranger` where the session has seen more commits than the manager holds, and `NoMemory` where a growth is refused.
+    pub fn prepare(&self, txn: &Txn, seen: &SeenList) -> Result<Prepared, Refused>
+        requires seen { (seen.now.opening ≡ O.opened) × IsBegun O.opened.manager seen.now.list txn.now }
+        ensures own { OnOk result (IsOwn self.now.manager txn.now) }
+        ensures prepared { IfOk result (λ prepared. IsPrepared self.now.manager txn.now prepared) }
+        ensures caught_up { OnOk result (number_in O.opened.manager seen.now.list ≤ number_in O.opened.manager self.now.list) }
+        ensures stranger { IfErr result (λ fault. fault ≡ Refused.Stranger → number_in O.opened.manager [] < number_in O.opened.manager seen.now.list) }
+    {
+        // Called for what its clauses tell.
+        let _both = self.publisher.longer(seen);
+        if self.publisher.is_behind(seen) {
+            return Err(Refused::Stranger);
+        }
+        let Ok(prepared) = self.manager.prepare(txn) else {
+            return Err(Refused::NoMemory);
+        };
+        Ok(prepared)
+    }
+
+    /// Commits what was prepared for the transaction of a session that has seen some of the list: publishes, installs, and tells
+    /// the session. The session has then seen the whole list. What the commit lets go of comes out, so that the caller frees it
+    /// without the lock.
+    ///
+    /// # Errors
+    ///
+    /// `NoMemory` where a growth is refused: nothing changes, and the transaction comes back.
     pub fn commit<R: Wait>(
         &mut self,
         rt: &R,
         txn: Txn,
+        prepared: Prepared,
         share: &mut Share<O>,
         seen: &mut SeenList,
     ) -> Result<(CommitReply, SeenList, Released), (Txn, Refused)>
         requires seen { (seen.old.opening ≡ O.opened) × IsBegun O.opened.manager seen.old.list txn }
         requires part { share.old.parts ≡ 1 }
+        requires own { IsOwn self.old.manager txn }
+        requires prepared { IsPrepared self.old.manager txn prepared }
+        requires caught_up { number_in O.opened.manager seen.old.list ≤ number_in O.opened.manager self.old.list }
         ensures decided { IfOk result (λ r. IsDecided self.old.manager txn r.0 self.new.manager) }
+        ensures reply { IfOk result (λ r. r.0 ≡ prepared.reply) }
+        ensures same { OnErr result (self.new ≡ self.old) }
         ensures err { IfErr result (λ e. (self.new.manager ≡ self.old.manager) × (e.0 ≡ txn) × (seen.new ≡ seen.old)) }
         ensures replied { IfOk result (λ r. IsReplied O.opened.manager seen.old.list seen.new.list txn r.0) }
 
@@ -138,7 +183,7 @@ impl<O: Opening, S: ImageStore> Locked<O, S> {
 
         // No more replies than the manager made records.
         ensures bound { OnOk result (share.new.amount ≤ 2 ^ 62) }
-        ensures stranger { IfErr result (λ e. e.1 ≡ Refused.Stranger → number_in O.opened.manager [] < number_in O.opened.manager seen.old.list) }
+        ensures refused { IfErr result (λ e. e.1 ≡ Refused.NoMemory) }
         ensures opening { seen.new.opening ≡ O.opened }
         ensures next { self.new.next ≡ self.old.next }
         ensures released { IfOk result (λ r. IsReleased self.old.manager txn r.2) }
@@ -151,12 +196,6 @@ impl<O: Opening, S: ImageStore> Locked<O, S> {
             publisher,
         } = self;
         let both = publisher.longer(seen);
-        if publisher.is_behind(seen) {
-            return Err((txn, Refused::Stranger));
-        }
-        let Ok(prepared) = manager.prepare(&txn) else {
-            return Err((txn, Refused::NoMemory));
-        };
         let Ok(()) = publisher.show_commit(rt, manager, &txn, &prepared) else {
             return Err((txn, Refused::NoMemory));
         };

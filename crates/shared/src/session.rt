@@ -7,7 +7,9 @@ ghost use Rattle.values.specs.declared.limits.TheConstants.{MAX_ROWS};
 ghost use Rattle.publishing.specs.Lists.{IsBegun, number_in};
 ghost use Rattle.publishing.specs.Views.{IsOf};
 ghost use Rattle.shared.specs.Sessions.{begun_in, new_seat, number_of, WasReplied, WasTold};
-ghost use Rattle.shared.specs.Stands.{IsReleased};
+ghost use Rattle.shared.specs.Stands.{IsGrown, IsReleased};
+ghost use Rattle.manager.specs.Managed.{IsDecided, IsOwn};
+ghost use Rattle.manager.specs.Prepared.{IsPrepared};
 ghost use Rattle.shared.specs.declared.fault.BeginFault.TheVariants as begin_fault;
 ghost use Rattle.shared.specs.declared.fault.CommitFault.TheVariants as commit_fault;
 
@@ -15,7 +17,7 @@ use crate::fault::{BeginFault, CommitFault, NotOpen};
 use crate::locked::{Locked, Refused};
 use crate::store::ImageStore;
 use crate::told::Told;
-use manager::Released;
+use manager::{Prepared, Released};
 use model::CommitReply;
 use publishing::{Opening, SeenList, VersionReader, newest_seen};
 use std::alloc::Global;
@@ -41,13 +43,13 @@ pub struct Session<O: Opening> {
 }
 
 /// What is left of a session that has ended.
-pub(crate) struct EndedSession<O: Opening> {
+pub struct EndedSession<O: Opening> {
     /// How many commit replies it got.
-    pub(crate) count: u64,
+    pub count: u64,
     /// The share that stands for it, with the count for its amount.
-    pub(crate) share: Share<O>,
+    pub share: Share<O>,
     /// The list that it saw.
-    pub(crate) seen: SeenList,
+    pub seen: SeenList,
 }
 
 impl<O: Opening> Model for Session<O> {
@@ -223,43 +225,72 @@ impl<O: Opening> Session<O> {
         self.list = self.list.longer(&list);
     }
 
-    /// Commits the transaction over the state that the caller has locked. What the commit lets go of comes out with the reply.
-    pub(crate) fn commit_at<S: ImageStore, R: Wait>(
+    /// What a commit of the transaction is to do over the state that the caller has locked. Nothing changes.
+    ///
+    /// # Errors
+    ///
+    /// `NotOpen` where no transaction is open, `Stranger` where the session has seen more commits than are held, `NoMemory`.
+    pub fn prepare_at<S: ImageStore>(&self, state: &Locked<O, S>) -> Result<Prepared, CommitFault>
+        ensures prepared { IfOk result (λ prepared. IfSome self.now.txn (λ txn. IsOwn state.now.manager txn × IsPrepared state.now.manager txn prepared)) }
+        ensures some { OnOk result (IsSome self.now.txn) }
+        ensures caught_up { OnOk result (number_in O.opened.manager self.now.seen ≤ number_in O.opened.manager state.now.list) }
+        ensures open { self.now.txn ≡ None → result ≡ Err commit_fault.NotOpen }
+        ensures undecided { result ≡ Err commit_fault.NotOpen → self.now.txn ≡ None }
+        ensures stranger { result ≡ Err commit_fault.Stranger → number_in O.opened.manager [] < number_in O.opened.manager self.now.seen }
+    {
+        let Some(txn) = &self.txn else {
+            return Err(CommitFault::NotOpen);
+        };
+        match state.prepare(txn, &self.list) {
+            Ok(prepared) => Ok(prepared),
+            Err(Refused::NoMemory) => Err(CommitFault::NoMemory),
+            Err(Refused::Stranger) => Err(CommitFault::Stranger),
+        }
+    }
+
+    /// Commits what was prepared for the transaction over the state that the caller has locked. What the commit lets go of comes
+    /// out with the reply.
+    ///
+    /// # Errors
+    ///
+    /// `NoMemory` where a growth is refused: nothing changes.
+    pub fn commit_at<S: ImageStore, R: Wait>(
         &mut self,
         rt: &R,
         state: &mut Locked<O, S>,
+        prepared: Prepared,
     ) -> Result<(CommitReply, Released), CommitFault>
+        requires some { IsSome self.old.txn }
+        requires prepared { IfSome self.old.txn (λ txn. IsOwn state.old.manager txn × IsPrepared state.old.manager txn prepared) }
+        requires caught_up { number_in O.opened.manager self.old.seen ≤ number_in O.opened.manager state.old.list }
         ensures replied { IfOk result (λ r. WasReplied O.opened.manager self.old self.new r.0) }
         ensures told { IfOk result (λ r. WasTold O.opened.manager self.new (number_of r.0)) }
+        ensures reply { IfOk result (λ r. r.0 ≡ prepared.reply) }
+        ensures decided { IfOk result (λ r. IfSome self.old.txn (λ txn. IsDecided state.old.manager txn r.0 state.new.manager)) }
+        ensures grown { IfOk result (λ r. IfSome self.old.txn (λ txn. IsGrown state.old.list state.new.list txn r.0)) }
+        ensures same { OnErr result (state.new ≡ state.old) }
         ensures released { IfOk result (λ r. IfSome self.old.txn (λ txn. IsReleased state.old.manager txn r.1)) }
         ensures ended { OnOk result ((self.new.txn ≡ None) × (self.new.count ≡ self.old.count + 1)) }
         ensures err { OnErr result (self.new ≡ self.old) }
-        ensures open { self.old.txn ≡ None → result ≡ Err commit_fault.NotOpen }
-        ensures undecided { result ≡ Err commit_fault.NotOpen → self.old.txn ≡ None }
-        ensures stranger { result ≡ Err commit_fault.Stranger → number_in O.opened.manager [] < number_in O.opened.manager self.old.seen }
+        ensures refused { IfErr result (λ fault. fault ≡ commit_fault.NoMemory) }
         ensures client { self.new.client ≡ self.old.client }
     {
-        let Some(txn) = self.txn.take() else {
-            return Err(CommitFault::NotOpen);
-        };
-        match state.commit(rt, txn, &mut self.share, &mut self.list) {
+        let txn = self.txn.take().unwrap();
+        match state.commit(rt, txn, prepared, &mut self.share, &mut self.list) {
             Ok((reply, note, released)) => {
                 self.count += 1;
                 self.note = Some(note);
                 Ok((reply, released))
             }
-            Err((txn, fault)) => {
+            Err((txn, _)) => {
                 put(&mut self.txn, txn);
-                match fault {
-                    Refused::NoMemory => Err(CommitFault::NoMemory),
-                    Refused::Stranger => Err(CommitFault::Stranger),
-                }
+                Err(CommitFault::NoMemory)
             }
         }
     }
 
     /// What is left of it. An open transaction is aborted.
-    pub(crate) fn end(self) -> EndedSession<O>
+    pub fn end(self) -> EndedSession<O>
         ensures share { (result.count ≡ self.count) × (result.share.parts ≡ 1) × (result.share.amount ≡ self.count) }
         ensures list { (result.seen.list ≡ self.seen) × (result.seen.opening ≡ O.opened) }
     {

@@ -8,7 +8,7 @@ ghost use Rattle.publishing.specs.Commits.{commits_made};
 ghost use Rattle.publishing.specs.Lists.{number_in};
 ghost use Rattle.std.specs.List.{range_with_len};
 ghost use Rattle.values.specs.declared.limits.TheConstants.{MAX_CLIENTS, MAX_ROWS};
-ghost use Rattle.shared.specs.Endings.{IsClosed, IsHandedOut};
+ghost use Rattle.shared.specs.Endings.{IsClosed, IsClosedWith, IsHandedOut};
 ghost use Rattle.shared.specs.Sessions.{AreBeginnings, WasReplied, WasTold, commits_above, new_seat, number_of};
 ghost use Rattle.shared.specs.declared.fault.CommitFault.TheVariants as commit_fault;
 ghost use Rattle.shared.specs.declared.fault.ShareFault.TheVariants as share_fault;
@@ -19,7 +19,7 @@ use crate::locked::{Locked, Unlocked};
 use crate::publisher::{Publisher, VersionWriter};
 use crate::session::{EndedSession, Session};
 use crate::store::ImageStore;
-use manager::{CheckpointFault, History, Manager};
+use manager::{CheckpointFault, History, Manager, Released};
 use model::CommitReply;
 use publishing::{NewBook, Notes, Opening, Published, SeenList, Sees, VersionReader};
 use std::alloc::{AllocError, Global};
@@ -179,13 +179,63 @@ fn sessions_of<O: Opening>(
     Ok(sessions)
 }
 
-/// Opens a session for each client, 1 to 64 of them, over a manager and its store. The opening is named by a type that
-/// the caller chooses: its book was made over this manager, its ledger has a part for each client.
+/// What an opening has: the state to be locked, and a session for each client.
+pub struct Parts<O: Opening, S: ImageStore> {
+    pub locked: Locked<O, S>,
+    pub sessions: Vec<Session<O>>,
+}
+
+/// Opens a session for each client, 1 to 64 of them, over a manager and its store, and gives what is to be locked. The opening is
+/// named by a type that the caller chooses: its book was made over this manager, its ledger has a part for each client.
 ///
 /// # Errors
 ///
 /// `BadLimit` where there aren't 1 to 64 clients, `NoReader` where a reader's slot was refused 64 times, `NoMemory`: the
 /// manager and the store are dropped.
+pub fn open_parts<O: Opening, S: ImageStore, R: Wait>(
+    alloc: Global,
+    manager: Manager,
+    store: S,
+    clients: u32,
+    fresh: NewOpening,
+    wait: &R,
+) -> Result<Parts<O, S>, ShareFault>
+    requires name { (fresh.blank.name ≡ O.name) × (fresh.blank.parts ≡ O.parts) × (O.clients ≡ O.parts) × (O.clients ≡ clients) }
+    requires opening { (fresh.book.list.opening ≡ O.opened) × (fresh.book.list.list ≡ []) × (O.opened.manager ≡ manager) }
+    requires store { S.columns store ≡ manager.schema }
+    ensures locked { IfOk result (λ r. (r.locked.manager ≡ manager) × (r.locked.list ≡ []) × (r.locked.next ≡ S.next store)) }
+    ensures sessions { IfOk result (λ r. r.sessions.items ≡ map new_seat (range_with_len 0 clients)) }
+    ensures limit { OnOk result ((1 ≤ clients) × (clients ≤ MAX_CLIENTS)) }
+    ensures none { clients ≡ 0 → result ≡ Err share_fault.BadLimit }
+    ensures many { 64 < clients → result ≡ Err share_fault.BadLimit }
+    ensures refused { IfErr result (λ fault. 1 ≤ clients → clients ≤ MAX_CLIENTS → fault ≢ share_fault.BadLimit) }
+{
+    if clients == 0 || clients > MAX_CLIENTS {
+        return Err(ShareFault::BadLimit);
+    }
+    let NewOpening { book, blank } = fresh;
+    let (counter, list) = book.named::<O>();
+    let row_limit = manager.row_limit();
+    let mut writer = writer_over(alloc, &manager, &list, clients, wait)?;
+    let (book, mut rest) = blank.open::<O>();
+    match sessions_of(alloc, clients, row_limit, &mut writer, &list, &mut rest) {
+        Ok(sessions) => {
+            let publisher = Publisher::new(counter, list, writer);
+            let locked = Locked::new(manager, store, book, rest, publisher);
+            Ok(Parts { locked, sessions })
+        }
+        Err(fault) => {
+            writer.take(wait);
+            Err(fault)
+        }
+    }
+}
+
+/// Opens a session for each client, as `open_parts`, over what they share.
+///
+/// # Errors
+///
+/// As `open_parts`.
 pub fn open<O: Opening, S: ImageStore, R: Wait>(
     alloc: Global,
     manager: Manager,
@@ -207,22 +257,34 @@ pub fn open<O: Opening, S: ImageStore, R: Wait>(
         return Err(ShareFault::BadLimit);
     }
     let counts = Vec::with_capacity(alloc, clients as usize)?;
-    let NewOpening { book, blank } = fresh;
-    let (counter, list) = book.named::<O>();
-    let row_limit = manager.row_limit();
-    let mut writer = writer_over(alloc, &manager, &list, clients, wait)?;
-    let (book, mut rest) = blank.open::<O>();
-    match sessions_of(alloc, clients, row_limit, &mut writer, &list, &mut rest) {
-        Ok(sessions) => {
-            let publisher = Publisher::new(counter, list, writer);
-            let state = Mutex::new(Locked::new(manager, store, book, rest, publisher));
-            Ok((Shared { state, counts }, sessions))
-        }
-        Err(fault) => {
-            writer.take(wait);
-            Err(fault)
-        }
-    }
+    let Parts { locked, sessions } = match open_parts(alloc, manager, store, clients, fresh, wait) {
+        Ok(parts) => parts,
+        Err(fault) => return Err(fault),
+    };
+    let state = Mutex::new(locked);
+    Ok((Shared { state, counts }, sessions))
+}
+
+/// Prepares and commits the session's transaction over the state.
+fn commit_in<O: Opening, S: ImageStore, R: Wait>(
+    rt: &R,
+    state: &mut Locked<O, S>,
+    session: &mut Session<O>,
+) -> Result<(CommitReply, Released), CommitFault>
+    ensures replied { IfOk result (λ r. WasReplied O.opened.manager session.old session.new r.0) }
+    ensures told { IfOk result (λ r. WasTold O.opened.manager session.new (number_of r.0)) }
+    ensures ended { OnOk result ((session.new.txn ≡ None) × (session.new.count ≡ session.old.count + 1)) }
+    ensures err { OnErr result (session.new ≡ session.old) }
+    ensures open { session.old.txn ≡ None → result ≡ Err commit_fault.NotOpen }
+    ensures undecided { result ≡ Err commit_fault.NotOpen → session.old.txn ≡ None }
+    ensures stranger { result ≡ Err commit_fault.Stranger → number_in O.opened.manager [] < number_in O.opened.manager session.old.seen }
+    ensures client { session.new.client ≡ session.old.client }
+{
+    let prepared = match session.prepare_at(state) {
+        Ok(prepared) => prepared,
+        Err(fault) => return Err(fault),
+    };
+    session.commit_at(rt, state, prepared)
 }
 
 impl<O: Opening, S: ImageStore> Shared<O, S> {
@@ -248,7 +310,7 @@ impl<O: Opening, S: ImageStore> Shared<O, S> {
         ensures client { session.new.client ≡ session.old.client }
     {
         let mut state = self.state.lock(wait);
-        let outcome = session.commit_at(wait, &mut state);
+        let outcome = commit_in(wait, &mut state, session);
         MutexGuard::unlock(state);
         let (reply, released) = outcome?;
         // Its trees and writes are freed here, so that nobody waits for the lock meanwhile.
@@ -326,25 +388,55 @@ impl<O: Opening, S: ImageStore> Shared<O, S> {
             sessions.items }
         ensures store { S.columns result.store ≡ result.manager.schema }
     {
-        let Shared { state, mut counts } = self;
-        let Unlocked {
-            manager,
-            store,
-            mut book,
-            rest: mut all,
-            list,
-        } = state.into_inner().close(wait);
-        for session in sessions {
-            let EndedSession { count, share, seen } = session.end();
-            let _both = seen.longer(&list);
-            all.merge(share);
-            counts.push_reserved(count);
-        }
-        book.audit(&mut all);
-        Closed {
-            manager,
-            store,
-            counts,
-        }
+        let Shared { state, counts } = self;
+        let locked = state.into_inner();
+        let list = locked.list();
+        close_parts(locked, sessions, counts, &list, wait)
+    }
+}
+
+/// Takes the sessions back, and gives the manager, the store and how many commit replies each session got, in the room that is
+/// given for that; open transactions are aborted. With all sessions the manager has made as many records as these are.
+pub fn close_parts<O: Opening, S: ImageStore, R: Wait>(
+    locked: Locked<O, S>,
+    sessions: Vec<Session<O>>,
+    counts: Vec<u64>,
+    also: &SeenList,
+    wait: &R,
+) -> Closed<S>
+    requires parts { O.clients ≡ O.parts }
+    requires room { (vec_len counts ≡ 0) × (O.clients ≤ vec_capacity counts) }
+    requires also { also.now.opening ≡ O.opened }
+    ensures lawful { IsManaged result.manager }
+    ensures counts { result.counts.items ≡ map (λ s. s.count) sessions.items }
+    ensures handed { O.opened.manager.made + length result.manager.history ≤ length O.opened.manager.history + result.manager.made }
+    ensures records { vec_len sessions ≡ O.clients → result.manager.made ≡ O.opened.manager.made + sum result.counts.items }
+    ensures closed { IsClosedWith O.opened.manager sessions.items result.manager also.now.list }
+    ensures lists { All
+        (λ s. AreBeginnings (commits_above O.opened.manager s.seen result.manager.start.base) (commits_made result.manager))
+        sessions.items }
+    ensures store { S.columns result.store ≡ result.manager.schema }
+{
+    let mut counts = counts;
+    let Unlocked {
+        manager,
+        store,
+        mut book,
+        rest: mut all,
+        list,
+    } = locked.close(wait);
+    for session in sessions {
+        let EndedSession { count, share, seen } = session.end();
+        let _both = seen.longer(&list);
+        all.merge(share);
+        counts.push_reserved(count);
+    }
+    // Called for what its clauses tell.
+    let _also = also.longer(&list);
+    book.audit(&mut all);
+    Closed {
+        manager,
+        store,
+        counts,
     }
 }

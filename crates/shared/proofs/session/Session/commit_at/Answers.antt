@@ -2,8 +2,8 @@ use Rattle.std.proofs.Common.{◌+◌, refl, sym, ap, ◌∙◌, subst}
 use Rattle.shared.specs.Sessions.{IsOfSeat}
 use Rattle.shared.proofs.session.Session.commit_at.Goals as goal
 
-pub invariant_of-self-in-Ok : goal.invariant_of-self-in-Ok
-invariant_of-self-in-Ok g c =
+pub invariant_of-self : goal.invariant_of-self
+invariant_of-self g c =
     let i = c.self.invariant in
     let s = c.self.inside in
     let told = c.in-Ok.ensures.told in (

@@ -12,7 +12,7 @@ use Rattle.shared.specs.Endings.{AreOfOneList}
 use Rattle.shared.specs.Sessions.{Seat}
 use Rattle.shared.proofs.CloseLemmas.{all_are_beginnings}
 use Rattle.shared.proofs.EndingLemmas.{goes_on-made}
-use Rattle.shared.proofs.shared.Shared.close.Goals as goal
+use Rattle.shared.proofs.shared.close_parts.Goals as goal
 
 pub loop-session-preserved : goal.loop-session-preserved
 loop-session-preserved g c =
@@ -40,13 +40,15 @@ returns-clause-closed g c =
     c.loop-session.yielded_by _ c.next.new.self c.in-None.is
     c.next.ensures.steps).0 in
     let e = c.close-manager.ensures in
-    let list = c.close-manager.result.list.list in
-    record {
-      list = list;
-      listed = subst (λ (l : List Item). IsListed g.O.Opening.opened.manager l c.close-manager.result.manager) (sym e.list.0) e.listed;
-      seen = subst (All (λ (s : Seat). AreOfOneList s.seen list)) all c.loop-session.invariant.seen;
-      goes_on = e.goes_on;
-    }
+    let list = c.close-manager.result.list.list in (
+      record {
+        list = list;
+        listed = subst (λ (l : List Item). IsListed g.O.Opening.opened.manager l c.close-manager.result.manager) (sym e.list.0) e.listed;
+        seen = subst (All (λ (s : Seat). AreOfOneList s.seen list)) all c.loop-session.invariant.seen;
+        goes_on = e.goes_on;
+      },
+      (c.longer-also.result.list, c.longer-also.ensures.this, c.longer-also.ensures.that),
+    )
 
 pub returns-clause-lists : goal.returns-clause-lists
 returns-clause-lists g c =

@@ -1,7 +1,7 @@
 use Rattle.std.proofs.Common.{◌≡◌, ◌≤◌, length, map, vec_capacity}
 use Rattle.std.specs.Prelude.{sum, All}
 use Rattle.shared.specs.Endings.{AreOfOneList}
-use Rattle.shared.proofs.shared.Shared.close.Given as goal
+use Rattle.shared.proofs.shared.close_parts.Given as goal
 
 abbrev pub invariant-loop-session : goal.invariant-loop-session
 invariant-loop-session g l = record {
