@@ -1,1 +1,2 @@
 mod JournaledLemmas
+mod SpelledLemmas

@@ -1,3 +1,4 @@
 pub mod Durable
 pub mod Journaled
 pub mod Laws
+pub mod Spelled

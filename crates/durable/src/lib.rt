@@ -12,7 +12,9 @@ mod durable;
 mod fault;
 mod laws;
 mod logged;
+mod spelling;
 
 pub use durable::{Durable, Parts};
 pub use fault::CommitFault;
 pub use laws::{a_commit_is_journaled, a_crash_in_a_commit, a_crash_leaves_the_commits};
+pub use spelling::spell_prepared;

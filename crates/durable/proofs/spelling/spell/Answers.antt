@@ -4,8 +4,8 @@ use Rattle.codec.specs.Payload.{part_bytes}
 use Rattle.codec.specs.Reading.{entries_in, spans_up}
 use Rattle.model.specs.declared.entry.Entry.{Entry}
 use Rattle.durable.specs.Durable.{payload_for}
-use Rattle.durable.proofs.logged.spell.Goals.{then-len-gt0+in_ok-write_part, else-len-gt0}
-use Rattle.durable.proofs.logged.spell.Goals as goal
+use Rattle.durable.proofs.spelling.spell.Goals.{then-len-gt0+in_ok-write_part, else-len-gt0}
+use Rattle.durable.proofs.spelling.spell.Goals as goal
 
 -- some entries are a part
 some_part : (schema : Columns) (table : ℕ) (es : List Entry) → 0 < length es → entries_in schema table (part_bytes table es) ≡ Ok es
