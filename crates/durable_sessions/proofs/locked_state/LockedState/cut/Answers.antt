@@ -1,0 +1,11 @@
+use Rattle.durable_sessions.proofs.QueuedLemmas.{queued_same}
+use Rattle.durable_sessions.proofs.UpkeepLemmas.{after_cut, list_kept}
+use Rattle.durable_sessions.proofs.locked_state.LockedState.cut.Goals as goal
+
+pub invariant_of-self : goal.invariant_of-self
+invariant_of-self g c =
+    let o = g.O.Opening.opened.manager in
+    let list = c.self.inside.locked.list in
+    let new = c.cut.new.self.list in
+    queued_same o g.O.JournalId.base g.O.JournalId.seed g.O.DurableOpening.table c.self.inside.from list c.self.inside.queue c.self.invariant new
+    (after_cut o list new _ _ c.cut.result c.cut.ensures.list (list_kept c.cut.result c.self.inside.locked c.cut.new.self c.cut.ensures.err))
