@@ -159,7 +159,7 @@ impl<O: DurableOpening, S: ImageStore, D: JournalDevice> DurableShared<O, S, D> 
     /// # Errors
     ///
     /// `NotOpen`, `Stranger`, `NoMemory`, `TooLong` and `JournalFailed`: nothing is decided, and the transaction stays open. `Unsure`: it
-    /// was decided as committed, and the device failed; recovery tells whether it is kept.
+    /// was decided as committed, and the device failed; recovery decides whether it is kept.
     pub fn commit<R: Wait>(
         &self,
         client: &mut DurableSession<O>,

@@ -19,7 +19,7 @@ pub enum CommitFault {
     /// The device had failed before. The transaction stays open.
     #[error("JournalFailed")]
     JournalFailed,
-    /// It was decided as committed, and the device failed before its frame was durable. Recovery tells whether it is kept.
+    /// It was decided as committed, and the device failed before its frame was durable. Recovery decides whether it is kept.
     #[error("Unsure")]
     Unsure,
 }
@@ -36,7 +36,7 @@ pub enum BeginFault {
     /// A growth, or a share of the version, was refused.
     #[error("NoMemory")]
     NoMemory,
-    /// The device failed over a commit of the newest version. Recovery tells whether that commit is kept.
+    /// The device failed over a commit of the newest version. Recovery decides whether that commit is kept.
     #[error("NotDurable")]
     NotDurable,
 }

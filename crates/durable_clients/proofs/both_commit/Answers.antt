@@ -1,0 +1,15 @@
+use denote.Param.{param}
+use denote.Param.Send.{sendable}
+use Rattle.std.proofs.Crossing.{crosses}
+use Rattle.std.proofs.alloc.Global.TheSendSync as global
+use Rattle.durable_sessions.proofs.Crossing.{durable_session_send, durable_shared_sync}
+use Rattle.durable_clients.proofs.both_commit.Goals as goal
+
+-- a durable session goes to another thread, which uses what they share
+pub join-one-requires-send-F : goal.join-one-requires-send-F
+join-one-requires-send-F g c κs within =
+    let a = durable_session_send (param 0 g.row.O) g.O.Opening g.O.Ledger g.O.WatermarkId in
+    let b = durable_shared_sync (param 0 g.row.O) g.O.DurableOpening g.O.Opening g.O.Ledger g.O.JournalId g.O.WatermarkId (param 1 g.row.S)
+    (param 2 g.row.D) g.S.ImageStore g.D.JournalDevice c.type_bounds.send-S c.type_bounds.send-D in
+    let d = global.the_sync in
+    search (c.type_bounds, crosses, sendable) depth 40
