@@ -9,7 +9,7 @@ use crate::tables::{manager_of, memory_column, table_of};
 use anyhow::anyhow;
 use devices::{ColumnDevice, Store, have_failed};
 use durable_sessions::{
-    DurableOpening, DurableParts, DurableSession, DurableShared, FrameSettings, open,
+    DurableOpening, DurableParts, DurableSession, DurableShared, FrameSettings, NewJournal, open,
 };
 use logging::{Appender, FileJournal, JournalDevice};
 use manager::Manager;
@@ -106,18 +106,20 @@ fn two_clients<
     requires rules { (O.seed ≡ 77) × (O.table ≡ 1) }
     requires base { (O.base ≡ O.opened.manager.start.base) × (O.opened.manager.history ≡ []) }
 {
-    let rules = FrameSettings {
-        seed: SEED,
-        table: TABLE,
+    let journal = NewJournal {
+        log: journal,
+        frames: FrameSettings {
+            seed: SEED,
+            table: TABLE,
+        },
+        watermark,
     };
     let Ok(
         DurableParts {
             shared,
             mut clients,
         },
-    ) = open::<O, S, D, T>(
-        alloc, manager, store, journal, rules, 2, fresh, watermark, rt,
-    )
+    ) = open::<O, S, D, T>(alloc, manager, store, journal, 2, fresh, rt)
     else {
         return false;
     };

@@ -67,6 +67,14 @@ pub struct FrameSettings {
     pub table: u32,
 }
 
+/// What `open` begins a journal with: its log, how its frames are made, and its watermark.
+#[derive(Drop)]
+pub struct NewJournal<D: JournalDevice> {
+    pub log: Appender<D>,
+    pub frames: FrameSettings,
+    pub watermark: NewWatermark,
+}
+
 /// What is left of a closed opening.
 #[derive(Drop)]
 pub struct ClosedParts<S: ImageStore, D: JournalDevice> {
@@ -105,19 +113,17 @@ pub fn open<O: DurableOpening, S: ImageStore, D: JournalDevice, R: Wait>(
     alloc: Global,
     manager: Manager,
     store: S,
-    journal: Appender<D>,
-    rules: FrameSettings,
+    journal: NewJournal<D>,
     clients: u32,
     fresh: NewOpening,
-    watermark: NewWatermark,
     wait: &R,
 ) -> Result<DurableParts<O, S, D>, ShareFault>
     requires name { (fresh.blank.name ≡ O.name) × (fresh.blank.parts ≡ O.parts) × (O.clients ≡ O.parts) × (O.clients ≡ clients) }
     requires opening { (fresh.book.list.opening ≡ O.opened) × (fresh.book.list.list ≡ []) × (O.opened.manager ≡ manager) }
     requires store { S.columns store ≡ manager.schema }
-    requires watermark { watermark.cell.table.shared.table_id ≡ O.watermark }
-    requires journal { (journal.device.appended ≡ O.front) × (length O.front ≤ journal.device.safe) × (journal.seed ≡ O.seed) }
-    requires rules { (rules.seed ≡ O.seed) × (rules.table ≡ O.table) }
+    requires watermark { journal.watermark.cell.table.shared.table_id ≡ O.watermark }
+    requires log { (journal.log.device.appended ≡ O.front) × (length O.front ≤ journal.log.device.safe) × (journal.log.seed ≡ O.seed) }
+    requires frames { (journal.frames.seed ≡ O.seed) × (journal.frames.table ≡ O.table) }
     requires base { (O.base ≡ O.opened.manager.start.base) × (O.opened.manager.history ≡ []) }
     ensures clients { IfOk result (λ r. map (λ c. c.session) r.clients.items ≡ map new_seat (range_with_len 0 clients)) }
     ensures limit { OnOk result ((1 ≤ clients) × (clients ≤ MAX_CLIENTS)) }
@@ -134,10 +140,15 @@ pub fn open<O: DurableOpening, S: ImageStore, D: JournalDevice, R: Wait>(
         Ok(parts) => parts,
         Err(fault) => return Err(fault),
     };
+    let NewJournal {
+        log,
+        frames,
+        watermark,
+    } = journal;
     let (watermark, writer) = watermark.named::<O>();
     let list = PublishedPrefix::new(locked.list());
-    let mut group_log = GroupLog::new(journal, list.again(), base, writer);
-    let queue = FrameQueue::new(alloc, rules.seed, rules.table);
+    let mut group_log = GroupLog::new(log, list.again(), base, writer);
+    let queue = FrameQueue::new(alloc, frames.seed, frames.table);
     let state = LockedState::new(locked, list, queue, group_log.reader(&watermark));
     let clients = clients_of(sessions, &mut group_log, &watermark, reserved);
     let shared = DurableShared {

@@ -19,7 +19,7 @@ mod waiters;
 
 pub use durable_session::DurableSession;
 pub use durable_shared::{
-    CloseBuffers, ClosedParts, DurableParts, DurableShared, FrameSettings, open,
+    CloseBuffers, ClosedParts, DurableParts, DurableShared, FrameSettings, NewJournal, open,
 };
 pub use fault::{BeginFault, CommitFault};
 pub use frame_queue::FrameQueue;
