@@ -1,5 +1,5 @@
 # Each target is one line; the work is done by the toolchain's command rt, and by tools/.
-.PHONY: try run test mutants examples fmt check door install uninstall bench soak fuzz
+.PHONY: try run test mutants examples fmt check libpdt door install uninstall bench soak fuzz
 
 # compiles the program from source and runs it on its example, unproved: a look
 try:
@@ -31,28 +31,31 @@ fmt:
 check:
 	cd crates/$(CRATE) && rt check
 
-# the C interface: proves crates/pdt_c, and builds a static and a shared library from it in door/c/out
-door:
-	tools/library && $(MAKE) -C door/c
+# the C library: proves crates/pdt_c, and builds a static and a shared library from it in libpdt/out
+libpdt:
+	tools/library && $(MAKE) -C libpdt
+
+# what it was called before 0.3
+door: libpdt
 
 # installs the header, both libraries, what pkg-config and CMake read, and the extension of SQLite where it is built:
 # make install PREFIX=/usr/local LIBDIR=/usr/local/lib INCLUDEDIR=/usr/local/include DESTDIR=
-install: door
-	$(MAKE) -C door/c install && $(MAKE) -C door/sqlite install
+install: libpdt
+	$(MAKE) -C libpdt install && $(MAKE) -C bindings/sqlite install
 
 # takes it away, for the same PREFIX, LIBDIR, INCLUDEDIR and DESTDIR
 uninstall:
-	$(MAKE) -C door/c uninstall && $(MAKE) -C door/sqlite uninstall
+	$(MAKE) -C libpdt uninstall && $(MAKE) -C bindings/sqlite uninstall
 
-# measures the library through its doors, beside plain Rust, SQLite and numpy, into bench/out: make bench BENCH="--only scans".
+# measures the library, also through its bindings, beside plain Rust, SQLite and numpy, into bench/out: make bench BENCH="--only scans".
 # It needs cargo and libsqlite3-dev, numpy and matplotlib of /usr/bin/python3; it names what isn't there, and leaves it out
-bench: door
+bench: libpdt
 	bench/measure $(BENCH)
 
 # has a database run unattended, with kills, and checks it meanwhile: make soak MINUTES=60
-soak: door
+soak: libpdt
 	tools/soak $(MINUTES)
 
 # draws calls beside models in C, Python and SQL, from new seeds: make fuzz MINUTES=10
-fuzz: door
+fuzz: libpdt
 	tools/fuzz $(MINUTES)

@@ -1,5 +1,6 @@
 //! The cases: each asks one question, and answers it by a table.
 mod begins;
+mod booleans;
 mod commits;
 mod durable;
 mod files;
@@ -9,13 +10,14 @@ mod keys;
 mod large_writes;
 mod loads;
 mod lookups;
-mod marks;
+mod maintenance;
 mod memory;
 mod openings;
 mod pin_scans;
 mod pins;
 mod prepared;
 mod rebases;
+mod savepoints;
 mod scans;
 mod sql;
 mod sql_transactions;
@@ -23,13 +25,11 @@ mod syncs;
 mod tails;
 mod texts;
 mod transactions;
-mod truths;
 mod untouched;
-mod upkeep;
 mod wide;
 mod writes;
 
-use crate::table::Table;
+use crate::figures::Figures;
 use rebases::Rebase;
 
 /// How large the tables are, and how often things are done.
@@ -107,14 +107,14 @@ fn percent(share: f64, rows: usize) -> usize {
 /// A case by its name.
 pub struct Case {
     pub name: &'static str,
-    pub run: fn(&Size) -> Table,
+    pub run: fn(&Size) -> Figures,
 }
 
 pub const CASES: [Case; 29] = [
     Case { name: scans::NAME, run: scans::run },
     Case { name: untouched::NAME, run: untouched::run },
     Case { name: keys::NAME, run: keys::run },
-    Case { name: truths::NAME, run: truths::run },
+    Case { name: booleans::NAME, run: booleans::run },
     Case { name: texts::NAME, run: texts::run },
     Case { name: lookups::NAME, run: lookups::run },
     Case { name: writes::NAME, run: writes::run },
@@ -122,7 +122,7 @@ pub const CASES: [Case; 29] = [
     Case { name: wide::NAME, run: wide::run },
     Case { name: commits::NAME, run: commits::run },
     Case { name: large_writes::NAME, run: large_writes::run },
-    Case { name: marks::NAME, run: marks::run },
+    Case { name: savepoints::NAME, run: savepoints::run },
     Case { name: begins::NAME, run: begins::run },
     Case { name: prepared::NAME, run: prepared::run },
     Case { name: pins::NAME, run: pins::run },
@@ -135,7 +135,7 @@ pub const CASES: [Case; 29] = [
     Case { name: durable::NAME, run: durable::run },
     Case { name: syncs::NAME, run: syncs::run },
     Case { name: openings::NAME, run: openings::run },
-    Case { name: upkeep::NAME, run: upkeep::run },
+    Case { name: maintenance::NAME, run: maintenance::run },
     Case { name: loads::NAME, run: loads::run },
     Case { name: memory::NAME, run: memory::run },
     Case { name: sql::NAME, run: sql::run },

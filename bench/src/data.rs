@@ -1,7 +1,7 @@
 //! The tables that are measured. A row is known by a number, from which its cells follow: those of a table are even, so
 //! that a row can come to stand between any two.
 use crate::drawn::scattered;
-use narthexmace::{CellRef, ColumnValues, Options, Store};
+use narthexmace::{CellRef, ColumnValues, Options, Table};
 use std::fmt::Write;
 
 /// What a key is made of.
@@ -123,14 +123,15 @@ pub fn csv(kind: KeyKind, numbers: impl Iterator<Item = i64>) -> String {
     text
 }
 
-/// A store over a table of so many rows.
-pub fn store(kind: KeyKind, rows: usize) -> Store {
+/// A table over a table of so many rows.
+pub fn table(kind: KeyKind, rows: usize) -> Table {
     opened(&csv(kind, numbers(rows)))
 }
 
-/// A store over a table of so many rows under a key of one number, handed over by columns: the blocks of each lie together.
-pub fn by_columns(rows: usize) -> Store {
-    with_columns(rows, |columns| Store::from_columns(columns, 1, &Options::default()).expect("the columns are a table"))
+/// A table over a table of so many rows under a key of one number, handed over by columns: the blocks of each lie
+/// together.
+pub fn by_columns(rows: usize) -> Table {
+    with_columns(rows, |columns| Table::from_columns(columns, 1, &Options::default()).expect("the columns are a table"))
 }
 
 /// Calls with the columns of such a table.
@@ -149,7 +150,7 @@ pub fn with_columns<T>(rows: usize, call: impl FnOnce(&[(&str, ColumnValues<'_>)
     ])
 }
 
-/// A store over the table of a text.
-pub fn opened(csv: &str) -> Store {
-    Store::open(csv, &Options::default()).expect("the text is a table")
+/// The table of a text.
+pub fn opened(csv: &str) -> Table {
+    Table::open(csv, &Options::default()).expect("the text is a table")
 }

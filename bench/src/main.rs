@@ -1,5 +1,6 @@
-//! Measures the library through its door, beside plain Rust and SQLite. Each case asks one question; every way to
-//! do it is taken in turn, its answer compared with the one that is due, and the least of several turns is its time.
+//! Measures the library through its crate for Rust, beside plain Rust and SQLite. Each case asks one question; every
+//! way to do it is taken in turn, its answer compared with the one that is due, and the least of several turns is its
+//! time.
 //!
 //!     bench [--size small|full] [--only NAME,..] [--csv DIR]
 #![deny(unsafe_op_in_unsafe_fn, clippy::undocumented_unsafe_blocks)]
@@ -8,12 +9,12 @@ mod baseline;
 mod cases;
 mod data;
 mod drawn;
+mod figures;
 mod heap;
 mod machine;
 mod options;
 mod room;
 mod sqlite;
-mod table;
 mod tails;
 mod threads;
 mod timing;

@@ -64,7 +64,7 @@ impl Database {
             ffi::sqlite3_enable_load_extension(self.raw.as_ptr(), 1);
             ffi::sqlite3_load_extension(self.raw.as_ptr(), text.as_ptr(), ptr::null(), ptr::null_mut())
         };
-        assert_eq!(ffi::OK, code, "{file}: {} (make -C door/sqlite)", self.said());
+        assert_eq!(ffi::OK, code, "{file}: {} (make -C bindings/sqlite)", self.said());
     }
 
     /// A statement, compiled.
@@ -233,10 +233,10 @@ pub fn fill(database: &Database, rows: usize) {
     database.run("COMMIT");
 }
 
-/// A database whose table of so many rows is a virtual one, of the extension `door/sqlite`.
+/// A database whose table of so many rows is a virtual one, of the extension `bindings/sqlite`.
 pub fn virtual_table(rows: usize) -> Database {
     let database = Database::in_memory();
-    database.load(concat!(env!("CARGO_MANIFEST_DIR"), "/../door/sqlite/out/pdt"));
+    database.load(concat!(env!("CARGO_MANIFEST_DIR"), "/../bindings/sqlite/out/pdt"));
     let file = env::temp_dir().join(format!("bench-{}.csv", process::id()));
     fs::write(&file, csv(KeyKind::Int, numbers(rows))).expect("a file in the folder for such");
     database.run(&format!("CREATE VIRTUAL TABLE items USING pdt('{}')", file.display()));

@@ -1,7 +1,7 @@
 //! Updates of a table, and where they lie.
 use crate::data::{Key, KeyKind, name_of, qty_of};
 use crate::drawn::Drawn;
-use narthexmace::{CellRef, Store, Transaction};
+use narthexmace::{CellRef, Table, Transaction};
 use std::collections::BTreeMap;
 
 /// What becomes of a row.
@@ -103,23 +103,23 @@ fn insert(txn: &mut Transaction<'_>, key: &Key, number: i64, qty: i64) {
     txn.insert(row).expect("there is no row of the key");
 }
 
-/// A transaction that sees updates of its store's table, which lie at a place.
-pub fn updated<'s>(store: &'s Store, kind: KeyKind, updates: &[Update], place: Place) -> Transaction<'s> {
-    let mut txn = begun(store);
+/// A transaction that sees updates of its table, which lie at a place.
+pub fn updated<'s>(table: &'s Table, kind: KeyKind, updates: &[Update], place: Place) -> Transaction<'s> {
+    let mut txn = begun(table);
     make(&mut txn, kind, updates);
     if place == Place::Own {
         return txn;
     }
     txn.commit().expect("nobody else commits");
     if place == Place::ReadPdt {
-        store.fold().expect("there is memory");
+        table.fold().expect("there is memory");
     }
-    begun(store)
+    begun(table)
 }
 
 /// A transaction that has begun.
-pub fn begun(store: &Store) -> Transaction<'_> {
-    store.begin().expect("there is memory")
+pub fn begun(table: &Table) -> Transaction<'_> {
+    table.begin().expect("there is memory")
 }
 
 /// How many rows a scan asks for at a time.
@@ -130,8 +130,8 @@ pub fn sum(txn: &Transaction<'_>, column: usize) -> i64 {
     let mut sum = 0i64;
     for batch in txn.batches(&[column], .., BATCH).expect("there is such a column") {
         let batch = batch.expect("there is memory");
-        for piece in batch.ints(0).expect("it is a column of numbers").pieces() {
-            sum = piece.as_slice().iter().fold(sum, |sum, number| sum.wrapping_add(*number));
+        for span in batch.ints(0).expect("it is a column of numbers").int_spans() {
+            sum = span.as_slice().iter().fold(sum, |sum, number| sum.wrapping_add(*number));
         }
     }
     sum

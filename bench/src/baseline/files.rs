@@ -1,4 +1,4 @@
-//! A plain write and a plain read of as many bytes as a store has, in as many files.
+//! A plain write and a plain read of as many bytes as a table has, in as many files.
 use std::fs::{self, File};
 use std::io::{self, Write};
 use std::path::Path;

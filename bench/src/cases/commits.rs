@@ -1,19 +1,19 @@
 //! Whole transactions of sets, by the size of the Write-PDT into which they commit.
 use super::Size;
 use crate::baseline::map::{Map, map_of, state_of};
-use crate::data::{KeyKind, store};
+use crate::data::{KeyKind, table};
 use crate::drawn::Drawn;
+use crate::figures::{Figures, Line, Unit, grouped};
 use crate::sqlite::{self, Bound, Database};
-use crate::table::{Line, Table, Unit, grouped};
 use crate::timing::{Turn, clocked, least, way};
 use crate::updates::{Mix, Place, Update, begun, image, state, updated, updates};
-use narthexmace::Store;
+use narthexmace::Table;
 use std::collections::BTreeMap;
 use std::sync::Mutex;
 
 pub const NAME: &str = "commits";
 
-pub fn run(size: &Size) -> Table {
+pub fn run(size: &Size) -> Figures {
     let mut lines: [Vec<Line>; 2] = Default::default();
     for entries in size.entries {
         let base = Base::of(size.rows, *entries);
@@ -23,7 +23,7 @@ pub fn run(size: &Size) -> Table {
         }
     }
     let rows = grouped(size.rows);
-    Table {
+    Figures {
         name: NAME,
         question: format!("how long does a transaction of sets take, from begin to commit, over {rows} rows?"),
         unit: Unit::Time,
@@ -38,7 +38,7 @@ pub fn run(size: &Size) -> Table {
 pub(super) struct Base {
     updates: Vec<Update>,
     image: BTreeMap<i64, i64>,
-    store: Store,
+    table: Table,
     map: Mutex<Map>,
     database: Database,
 }
@@ -52,12 +52,12 @@ pub(super) struct Sets {
 impl Base {
     pub(super) fn of(rows: usize, entries: usize) -> Base {
         let updates = updates(rows, entries, Mix::Sets);
-        let (image, store, database) = (image(rows, &updates), store(KeyKind::Int, rows), sqlite::table(rows));
-        drop(updated(&store, KeyKind::Int, &updates, Place::WritePdt));
+        let (image, table, database) = (image(rows, &updates), table(KeyKind::Int, rows), sqlite::table(rows));
+        drop(updated(&table, KeyKind::Int, &updates, Place::WritePdt));
         database.run("BEGIN");
         sqlite::make(&database, &updates);
         database.run("COMMIT");
-        Base { map: Mutex::new(map_of(&image)), updates, image, store, database }
+        Base { map: Mutex::new(map_of(&image)), updates, image, table, database }
     }
 
     pub(super) fn sets(&self, each: usize, transactions: usize) -> Sets {
@@ -81,17 +81,17 @@ impl Base {
     }
 
     fn ours(&self, sets: &Sets) -> Turn {
-        self.store.cut(); // no turn has more commits behind it than the first
+        self.table.trim(); // no turn has more commits behind it than the first
         let (time, ()) = clocked(|| {
             for cells in sets.cells.chunks(sets.each) {
-                let mut txn = begun(&self.store);
+                let mut txn = begun(&self.table);
                 for (row, qty) in cells {
                     txn.set([*row], KeyKind::Int.qty_column(), *qty).expect("there is such a row");
                 }
                 txn.commit().expect("nobody else commits");
             }
         });
-        Turn { time, answer: state(&begun(&self.store), KeyKind::Int.qty_column()) }
+        Turn { time, answer: state(&begun(&self.table), KeyKind::Int.qty_column()) }
     }
 
     fn in_map(&self, sets: &Sets) -> Turn {

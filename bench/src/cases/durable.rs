@@ -1,13 +1,13 @@
 //! Durable commits by threads: each is a transaction that inserts one row, and is answered once the disk has it.
 use super::Size;
 use crate::data::{KeyKind, name_of, qty_of};
+use crate::figures::{Figures, Line, Unit};
 use crate::room::Room;
 use crate::sqlite::{self, Bound};
-use crate::table::{Line, Table, Unit};
 use crate::threads::at_once;
 use crate::timing::{Turn, least, way};
 use crate::updates::{begun, state};
-use narthexmace::{Database, DatabaseOptions, Options, Store, SyncMode, cells};
+use narthexmace::{Database, DatabaseOptions, Options, SyncMode, Table, cells};
 use std::cell::Cell;
 use std::path::Path;
 use std::time::Duration;
@@ -17,7 +17,7 @@ pub const NAME: &str = "durable";
 /// How many threads there are in turn.
 const THREADS: [usize; 3] = [1, 4, 16];
 
-pub fn run(size: &Size) -> Table {
+pub fn run(size: &Size) -> Figures {
     let room = Room::new();
     let lines = THREADS.map(|threads| {
         let due = due(size.durable);
@@ -37,7 +37,7 @@ pub fn run(size: &Size) -> Table {
         let per_second = times.into_iter().map(|time| 1e9 / time).collect();
         Line::new(&[&threads, &format!("{:.1}", quickest.get().1)], per_second)
     });
-    Table {
+    Figures {
         name: NAME,
         question: "how many commits of one row are made in a second by threads, each on the disk when it is answered?"
             .to_string(),
@@ -82,7 +82,7 @@ pub fn ours(folder: &Path, sync: SyncMode, threads: usize, rows: usize) -> Ours 
     Ours { turn: Turn { time: done.whole, answer }, shared }
 }
 
-fn insert(items: &Store, number: i64) {
+fn insert(items: &Table, number: i64) {
     let mut txn = begun(items);
     txn.insert(cells![number, &name_of(number), qty_of(number)]).expect("there is no such row");
     txn.commit().expect("nobody else inserts it");

@@ -3,24 +3,24 @@ use super::{Size, percent};
 use crate::baseline::files;
 use crate::data::{KeyKind, csv, last_byte, numbers, opened, qty_of};
 use crate::drawn::scattered;
+use crate::figures::{Figures, Line, Unit, grouped};
 use crate::room::Room;
-use crate::table::{Line, Table, Unit, grouped};
 use crate::timing::{Turn, clocked, least, way};
 use crate::updates::{begun, sum};
-use narthexmace::{Column, ColumnType, Options, Store};
+use narthexmace::{Column, ColumnType, Options, Table};
 use std::fmt::Write;
 use std::path::{Path, PathBuf};
 
 pub const NAME: &str = "files";
 
-pub fn run(size: &Size) -> Table {
+pub fn run(size: &Size) -> Figures {
     let room = Room::new();
     let texts = csv(KeyKind::Int, numbers(size.rows));
     let mut lines = Vec::new();
     for (word, csv) in [("a number, a text of 8 bytes, a number", texts), ("four numbers", four_ints(size.rows))] {
         lines.extend(two_lines(size, &room, word, &csv));
     }
-    Table {
+    Figures {
         name: NAME,
         question: format!(
             "how many megabytes of files are written and read in a second, each synced, of a table of {} rows \
@@ -46,16 +46,16 @@ fn four_ints(rows: usize) -> String {
 
 fn two_lines(size: &Size, room: &Room, word: &str, csv: &str) -> [Line; 2] {
     let due = due(size, csv);
-    let store = opened(csv);
-    set(&store, size);
+    let table = opened(csv);
+    set(&table, size);
     let kept = room.empty("kept");
-    store.checkpoint(&kept).expect("a store can be written");
-    let files = files::read(&kept).expect("a store can be read");
+    table.checkpoint(&kept).expect("a table can be written");
+    let files = files::read(&kept).expect("a table can be read");
     let bytes = files::bytes(&files);
     let checkpoints = vec![
         way(1, due, || {
-            set(&store, size);
-            checkpoint(&store, room.empty("ours"))
+            set(&table, size);
+            checkpoint(&table, room.empty("ours"))
         }),
         way(1, bytes as i64, || {
             let folder = room.empty("plain");
@@ -96,27 +96,27 @@ fn due(size: &Size, csv: &str) -> i64 {
 }
 
 /// Sets the rows anew, so that a checkpoint has updates to merge.
-fn set(store: &Store, size: &Size) {
-    let mut txn = begun(store);
+fn set(table: &Table, size: &Size) {
+    let mut txn = begun(table);
     for number in rows_set(size) {
-        txn.set([number], store.columns().len() - 1, QTY).expect("there is such a row");
+        txn.set([number], table.columns().len() - 1, QTY).expect("there is such a row");
     }
     txn.commit().expect("nobody else commits");
-    assert_eq!(rows_set(size).count(), store.sizes().write_entries, "{NAME}: an entry for each set");
+    assert_eq!(rows_set(size).count(), table.sizes().write_entries, "{NAME}: an entry for each set");
 }
 
-fn checkpoint(store: &Store, folder: PathBuf) -> Turn {
-    let (time, ()) = clocked(|| store.checkpoint(&folder).expect("a store can be written"));
+fn checkpoint(table: &Table, folder: PathBuf) -> Turn {
+    let (time, ()) = clocked(|| table.checkpoint(&folder).expect("a table can be written"));
     Turn { time, answer: answer_of(&recover(&folder)) }
 }
 
-fn recover(folder: &Path) -> Store {
-    Store::recover(folder, &Options::default()).expect("a store can be read")
+fn recover(folder: &Path) -> Table {
+    Table::recover(folder, &Options::default()).expect("a table can be read")
 }
 
-/// What all cells of a store's table add up to.
-fn answer_of(store: &Store) -> i64 {
-    let txn = begun(store);
+/// What all cells of a table add up to.
+fn answer_of(table: &Table) -> i64 {
+    let txn = begun(table);
     let sum_of = |(column, it): (usize, &Column)| match it.column_type {
         ColumnType::Text => {
             let batch = txn.batch(&[column], ..).expect("there is memory");
@@ -124,5 +124,5 @@ fn answer_of(store: &Store) -> i64 {
         }
         _ => sum(&txn, column),
     };
-    store.columns().iter().enumerate().map(sum_of).fold(txn.rows() as i64, i64::wrapping_add)
+    table.columns().iter().enumerate().map(sum_of).fold(txn.rows() as i64, i64::wrapping_add)
 }

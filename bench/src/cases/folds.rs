@@ -2,16 +2,16 @@
 use super::Size;
 use crate::data::{KeyKind, csv, numbers, opened};
 use crate::drawn::Drawn;
-use crate::table::{Line, Table, Unit, grouped};
+use crate::figures::{Figures, Line, Unit, grouped};
 use crate::timing::{Turn, clocked, least, way};
 use crate::updates::{Mix, Place, Update, begun, image, state, updated, updates};
 use std::collections::BTreeMap;
 
 pub const NAME: &str = "folds";
 
-pub fn run(size: &Size) -> Table {
+pub fn run(size: &Size) -> Figures {
     let csv = csv(KeyKind::Int, numbers(size.rows));
-    Table {
+    Figures {
         name: NAME,
         question: format!("how long does a fold take, over a table of {} rows?", grouped(size.rows)),
         unit: Unit::Time,
@@ -53,13 +53,13 @@ impl Trees {
     }
 
     fn folded(&self, csv: &str) -> Turn {
-        let store = opened(csv);
-        drop(updated(&store, KeyKind::Int, &self.lower, Place::ReadPdt));
-        drop(updated(&store, KeyKind::Int, &self.upper, Place::WritePdt));
-        let (time, ()) = clocked(|| store.fold().expect("there is memory"));
-        let sizes = store.sizes();
+        let table = opened(csv);
+        drop(updated(&table, KeyKind::Int, &self.lower, Place::ReadPdt));
+        drop(updated(&table, KeyKind::Int, &self.upper, Place::WritePdt));
+        let (time, ()) = clocked(|| table.fold().expect("there is memory"));
+        let sizes = table.sizes();
         assert_eq!((0, self.upper.len() + self.lower.len()), (sizes.write_entries, sizes.read_entries));
-        Turn { time, answer: state(&begun(&store), KeyKind::Int.qty_column()) }
+        Turn { time, answer: state(&begun(&table), KeyKind::Int.qty_column()) }
     }
 
     /// What a fold is at the least: a third list of all entries.

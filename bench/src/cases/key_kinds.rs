@@ -3,13 +3,13 @@ use super::lookups::{selected, weight, weight_of};
 use super::{Size, percent};
 use crate::baseline::by_key::{KeyColumns, TextColumn};
 use crate::baseline::map::Record;
-use crate::data::{Key, KeyKind, PREFIX, last_byte, name_of, numbers, qty_of, store};
+use crate::data::{Key, KeyKind, PREFIX, last_byte, name_of, numbers, qty_of, table};
 use crate::drawn::Drawn;
+use crate::figures::{Figures, Line, Unit, grouped};
 use crate::sqlite::{self, Bound, Database};
-use crate::table::{Line, Table, Unit, grouped};
 use crate::timing::{Turn, Way, clocked, least, way, whole};
 use crate::updates::{Mix, Place, Update, begun, image, state, updated, updates};
-use narthexmace::{CellRef, Store, Transaction};
+use narthexmace::{CellRef, Table, Transaction};
 use std::collections::BTreeMap;
 
 pub const NAME: &str = "key_kinds";
@@ -19,7 +19,7 @@ const SHARE: f64 = 10.0;
 /// The quantity of each row that is inserted.
 const QTY: i64 = 1_000_000;
 
-pub fn run(size: &Size) -> Table {
+pub fn run(size: &Size) -> Figures {
     let rows = size.rows / 10;
     let two_lines = |kind| match kind {
         KeyKind::Int => two_lines::<Vec<i64>>(size, kind, rows),
@@ -33,7 +33,7 @@ pub fn run(size: &Size) -> Table {
             lines.push(line);
         }
     }
-    Table {
+    Figures {
         name: NAME,
         question: format!(
             "how long do a look-up by key and an insert in an open transaction take, by what the keys are made of, over \
@@ -53,9 +53,9 @@ fn two_lines<K: KeyColumns>(size: &Size, kind: KeyKind, rows: usize) -> [Line; 2
     let [plain, updated] = [&[], changes.as_slice()].map(|updates| Kept::of(kind, rows, updates));
     let elsewhere = Elsewhere::<K>::of(kind, rows);
     let calls = size.calls.min(rows / 10);
-    let [gets, changed_gets] = [&plain, &updated].map(|table| Asked::of(kind, table.there(calls)));
-    let [inserts, changed_inserts] = [&plain, &updated].map(|table| Asked::of(kind, table.missing(calls)));
-    let [txn, changed_txn] = [&plain, &updated].map(|table| begun(&table.store));
+    let [gets, changed_gets] = [&plain, &updated].map(|built| Asked::of(kind, built.there(calls)));
+    let [inserts, changed_inserts] = [&plain, &updated].map(|built| Asked::of(kind, built.missing(calls)));
+    let [txn, changed_txn] = [&plain, &updated].map(|built| begun(&built.table));
     let (due, due_after) = (plain.due_of(&gets), plain.due_after(&inserts));
     let get_ways = vec![
         gets.by_key(&txn, due),
@@ -64,8 +64,8 @@ fn two_lines<K: KeyColumns>(size: &Size, kind: KeyKind, rows: usize) -> [Line; 2
         elsewhere.by_key_in_sqlite(&gets, due),
     ];
     let insert_ways = vec![
-        inserts.insert(&plain.store, due_after),
-        changed_inserts.insert(&updated.store, updated.due_after(&changed_inserts)),
+        inserts.insert(&plain.table, due_after),
+        changed_inserts.insert(&updated.table, updated.due_after(&changed_inserts)),
         elsewhere.insert_into_map(&inserts, due_after),
         elsewhere.insert_into_sqlite(&inserts, due_after),
     ];
@@ -76,15 +76,15 @@ fn two_lines<K: KeyColumns>(size: &Size, kind: KeyKind, rows: usize) -> [Line; 2
 /// A table of ours, and the quantities of its rows.
 struct Kept {
     rows: usize,
-    store: Store,
+    table: Table,
     image: BTreeMap<i64, i64>,
 }
 
 impl Kept {
     fn of(kind: KeyKind, rows: usize, updates: &[Update]) -> Kept {
-        let store = store(kind, rows);
-        drop(updated(&store, kind, updates, Place::WritePdt));
-        Kept { rows, store, image: image(rows, updates) }
+        let table = table(kind, rows);
+        drop(updated(&table, kind, updates, Place::WritePdt));
+        Kept { rows, table, image: image(rows, updates) }
     }
 
     /// The numbers of so many rows, each drawn from all.
@@ -153,10 +153,10 @@ impl Asked {
         whole(self.calls(), due, move || keys.iter().map(|key| weight_of(&get(key), self.kind)).sum())
     }
 
-    fn insert<'a>(&'a self, store: &'a Store, due: i64) -> Way<'a> {
+    fn insert<'a>(&'a self, table: &'a Table, due: i64) -> Way<'a> {
         let rows = self.rows();
         way(self.calls(), due, move || {
-            let mut txn = begun(store);
+            let mut txn = begun(table);
             let insert = |row: &Vec<CellRef<'_>>| txn.insert(row.iter().copied()).expect("there is no such row");
             let (time, ()) = clocked(|| rows.iter().for_each(insert));
             Turn { time, answer: state(&txn, self.kind.qty_column()) }
@@ -232,7 +232,7 @@ fn bounds<'c>(cells: &[CellRef<'c>]) -> Vec<Bound<'c>> {
     let bound = |cell: &CellRef<'c>| match *cell {
         CellRef::Text(text) => Bound::Text(text),
         CellRef::Int(number) => Bound::Int(number),
-        CellRef::Bool(truth) => Bound::Int(i64::from(truth)),
+        CellRef::Bool(boolean) => Bound::Int(i64::from(boolean)),
     };
     cells.iter().map(bound).collect()
 }

@@ -2,14 +2,14 @@
 use super::{SHARES, Size, percent};
 use crate::baseline::by_key::{AnyByKey, Search};
 use crate::data::{KeyKind, csv, numbers, opened};
-use crate::table::{Line, Table, Unit, grouped};
+use crate::figures::{Figures, Line, Unit, grouped};
 use crate::timing::{least, whole};
 use crate::updates::{Mix, Place, image, sum_copied, updated, updates};
 use std::hint::black_box;
 
 pub const NAME: &str = "keys";
 
-pub fn run(size: &Size) -> Table {
+pub fn run(size: &Size) -> Figures {
     let mut lines = Vec::new();
     for kind in KeyKind::SHORT {
         let csv = csv(kind, numbers(size.rows));
@@ -17,7 +17,7 @@ pub fn run(size: &Size) -> Table {
             lines.push(line(size, kind, &csv, share));
         }
     }
-    Table {
+    Figures {
         name: NAME,
         question: format!(
             "how does the sum of a column of {} rows grow with the width of the key, \
@@ -33,8 +33,8 @@ pub fn run(size: &Size) -> Table {
 
 fn line(size: &Size, kind: KeyKind, csv: &str, share: f64) -> Line {
     let updates = updates(size.rows, percent(share, size.rows), Mix::Mixed);
-    let store = opened(csv);
-    let txn = updated(&store, kind, &updates, Place::ReadPdt);
+    let table = opened(csv);
+    let txn = updated(&table, kind, &updates, Place::ReadPdt);
     let by_key = AnyByKey::of(kind, size.rows, &updates);
     let image = image(size.rows, &updates);
     let due = image.values().sum();

@@ -1,18 +1,18 @@
 //! Commits of one set, by how many entries the Write-PDT has into which they go, up to one for each row.
 use super::Size;
 use super::commits::Base;
-use crate::table::{Line, Table, Unit, grouped};
+use crate::figures::{Figures, Line, Unit, grouped};
 
 pub const NAME: &str = "large_writes";
 
-pub fn run(size: &Size) -> Table {
+pub fn run(size: &Size) -> Figures {
     let lines = [100, 10, 1].map(|part| {
         let entries = size.rows / part;
         let base = Base::of(size.rows, entries);
         let sets = base.sets(1, size.calls);
         Line::new(&[&grouped(entries)], base.times(size.rounds, &sets))
     });
-    Table {
+    Figures {
         name: NAME,
         question: format!(
             "how long does a transaction of one set take, from begin to commit, over {} rows, of which many are set in \

@@ -3,15 +3,15 @@ use super::Size;
 use crate::baseline::reading::{columns, rows};
 use crate::data::{KeyKind, csv, name_of, numbers, opened, qty_of};
 use crate::drawn::Drawn;
+use crate::figures::{Figures, Line, Unit, grouped};
 use crate::sqlite::{self, Bound};
-use crate::table::{Line, Table, Unit, grouped};
 use crate::timing::{Turn, clocked, least, way};
 use crate::updates::begun;
 use std::hint::black_box;
 
 pub const NAME: &str = "loads";
 
-pub fn run(size: &Size) -> Table {
+pub fn run(size: &Size) -> Figures {
     let mut drawn: Vec<i64> = numbers(size.rows).collect();
     Drawn::new(11).shuffle(&mut drawn);
     let texts = [
@@ -24,7 +24,7 @@ pub fn run(size: &Size) -> Table {
         let ways = vec![way(1, due, || ours(&text)), way(1, due, || plain(&text)), way(1, due, || in_sqlite(&text))];
         Line::new(&[&word], least(NAME, size.rounds, ways))
     });
-    Table {
+    Figures {
         name: NAME,
         question: format!("how long does a CSV text of {} rows and {} bytes take?", grouped(size.rows), grouped(bytes)),
         unit: Unit::Time,
@@ -35,8 +35,8 @@ pub fn run(size: &Size) -> Table {
 }
 
 fn ours(text: &str) -> Turn {
-    let (time, store) = clocked(|| opened(text));
-    let txn = begun(&store);
+    let (time, table) = clocked(|| opened(text));
+    let txn = begun(&table);
     let batch = txn.batch(&[0, 1, 2], ..).expect("there is memory");
     let (ids, qtys) = (batch.ints(0).expect("numbers"), batch.ints(2).expect("numbers"));
     let names = batch.texts(1).expect("texts");

@@ -1,10 +1,10 @@
 //! Look-ups by key and by position, and the rank of a key, by the size of the table and by updates.
 use super::{Size, percent};
 use crate::baseline::map::{Record, Sorted};
-use crate::data::{KeyKind, last_byte, store};
+use crate::data::{KeyKind, last_byte, table};
 use crate::drawn::Drawn;
+use crate::figures::{Figures, Line, Unit, grouped};
 use crate::sqlite::{self, Bound, Database, Statement};
-use crate::table::{Line, Table, Unit, grouped};
 use crate::timing::{Way, least, whole};
 use crate::updates::{Mix, Place, image, updated, updates};
 use narthexmace::{Row, Transaction};
@@ -17,14 +17,14 @@ const KIND: KeyKind = KeyKind::Int;
 /// The share of the rows that are updated in the second of two tables.
 const SHARE: f64 = 10.0;
 
-pub fn run(size: &Size) -> Table {
+pub fn run(size: &Size) -> Figures {
     let mut lines: [Vec<Line>; 3] = Default::default();
     for rows in size.tables {
         for (lines, line) in lines.iter_mut().zip(three_lines(size, *rows)) {
             lines.push(line);
         }
     }
-    Table {
+    Figures {
         name: NAME,
         question: format!("how long does a look-up take, with none and with {SHARE} % of the rows updated?"),
         unit: Unit::Time,
@@ -37,10 +37,10 @@ pub fn run(size: &Size) -> Table {
 /// The look-ups of tables of so many rows.
 fn three_lines(size: &Size, rows: usize) -> [Line; 3] {
     let updates = updates(rows, percent(SHARE, rows), Mix::Mixed);
-    let stores = [(); 2].map(|()| store(KIND, rows));
+    let tables = [(); 2].map(|()| table(KIND, rows));
     let (plain, changed) = (image(rows, &[]), image(rows, &updates));
     let asked = [plain, changed].map(|image| Asked::of(&image, size.calls));
-    let txns = [updated(&stores[0], KIND, &[], Place::Own), updated(&stores[1], KIND, &updates, Place::ReadPdt)];
+    let txns = [updated(&tables[0], KIND, &[], Place::Own), updated(&tables[1], KIND, &updates, Place::ReadPdt)];
     let database = sqlite::table(rows);
     type Ours = for<'a> fn(&'a Asked, &'a Transaction<'_>) -> Way<'a>;
     type Baselines = for<'a> fn(&'a Asked, &'a Database) -> [Way<'a>; 2];

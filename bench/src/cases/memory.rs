@@ -4,24 +4,24 @@ use super::Size;
 use crate::baseline::map::{Map, Record, map_of};
 use crate::data::{KeyKind, by_columns, name_of, numbers, qty_of, with_columns};
 use crate::drawn::Drawn;
+use crate::figures::{Figures, Line, NONE, Unit, grouped};
 use crate::heap::{in_use, left, since};
 use crate::sqlite::{self, Bound, Database};
-use crate::table::{Line, NONE, Table, Unit, grouped};
 use crate::updates::{Mix, Place, Update, begun, image, updated, updates};
-use narthexmace::{Error, Options, Pin, Store, Transaction, cells};
+use narthexmace::{Error, Options, Pin, Table, Transaction, cells};
 
 pub const NAME: &str = "memory";
 const NAME_COLUMN: usize = 1;
 const QTY_COLUMN: usize = 2;
 
-pub fn run(size: &Size) -> Table {
+pub fn run(size: &Size) -> Figures {
     let count = size.rows / 20;
     let mut lines = vec![row(size.rows)];
     lines.extend(Kind::ALL.into_iter().flat_map(|kind| Entries::of(size.rows, count, kind).lines()));
     lines.extend(transactions(size.rows, count));
     lines.extend(pins(size.rows, count));
     lines.extend([1, 10].map(|each| kept_commits(size.rows, count, each)));
-    Table {
+    Figures {
         name: NAME,
         question: format!(
             "how much memory does each take, over {} rows of a number, a text of 8 bytes and a number, {} of which are \
@@ -39,10 +39,10 @@ pub fn run(size: &Size) -> Table {
 /// A row of a table that nobody has changed.
 fn row(rows: usize) -> Line {
     let image = image(rows, &[]);
-    let (ours, store) = left(rows, || by_columns(rows));
+    let (ours, table) = left(rows, || by_columns(rows));
     let (theirs, map) = left(rows, || map_of(&image));
     let (database, there) = left(rows, || sqlite::table(rows));
-    assert_eq!((rows as u64, rows), (begun(&store).rows(), map.len()), "{NAME}: as many rows");
+    assert_eq!((rows as u64, rows), (begun(&table).rows(), map.len()), "{NAME}: as many rows");
     assert_eq!(rows as i64, there.number(COUNT), "{NAME}: as many rows");
     Line::new(&[&"a row", &"the stable table"], vec![ours, theirs, database])
 }
@@ -93,19 +93,19 @@ impl Entries {
 
     /// A line for each layer. Beside the Write-PDT stand the baselines, where they have rows of their own for it.
     fn lines(&self) -> [Line; 3] {
-        let store = by_columns(self.rows);
+        let table = by_columns(self.rows);
         let before = in_use();
-        let mut txn = begun(&store);
+        let mut txn = begun(&table);
         for (number, name) in &self.writes {
             self.write(&mut txn, *number, name).expect("the row is as it should be");
         }
         let own = since(before, self.count());
         txn.commit().expect("nobody else commits");
-        store.cut(); // no commit is kept beside the layers
-        assert_eq!(self.count(), store.sizes().write_entries, "{NAME}: an entry for each write");
+        table.trim(); // no commit is kept beside the layers
+        assert_eq!(self.count(), table.sizes().write_entries, "{NAME}: an entry for each write");
         let write_pdt = since(before, self.count());
-        store.fold().expect("there is memory");
-        assert_eq!((0, self.count()), (store.sizes().write_entries, store.sizes().read_entries));
+        table.fold().expect("there is memory");
+        assert_eq!((0, self.count()), (table.sizes().write_entries, table.sizes().read_entries));
         let read_pdt = since(before, self.count());
         let [map, database] = if self.kind == Kind::Insert { self.inserted_elsewhere() } else { [NONE; 2] };
         [
@@ -152,12 +152,12 @@ impl Entries {
 
 /// Transactions that are open, over one version.
 fn transactions(rows: usize, count: usize) -> [Line; 2] {
-    let store = by_columns(rows);
+    let table = by_columns(rows);
     let mut open: Vec<Transaction<'_>> = Vec::with_capacity(count);
     let before = in_use();
-    open.extend((0..count).map(|_| begun(&store)));
+    open.extend((0..count).map(|_| begun(&table)));
     let empty = since(before, count);
-    assert_eq!(count, store.sizes().open_transactions, "{NAME}: each is open");
+    assert_eq!(count, table.sizes().open_transactions, "{NAME}: each is open");
     for (txn, number) in open.iter_mut().zip(numbers(rows)) {
         txn.set([number], QTY_COLUMN, 1_000_000).expect("there is such a row");
     }
@@ -169,47 +169,47 @@ fn transactions(rows: usize, count: usize) -> [Line; 2] {
 /// Pins of one version, and pins of a version each, between which one row was set.
 fn pins(rows: usize, count: usize) -> [Line; 2] {
     let options = Options { recent: 1, ..Options::default() };
-    let store =
-        with_columns(rows, |columns| Store::from_columns(columns, 1, &options).expect("the columns are a table"));
-    let sets = set(&store, rows, count);
+    let table =
+        with_columns(rows, |columns| Table::from_columns(columns, 1, &options).expect("the columns are a table"));
+    let sets = set(&table, rows, count);
     let mut pins: Vec<Pin<'_>> = Vec::with_capacity(count);
-    let (of_one, ()) = left(count, || pins.extend((0..count).map(|_| store.pin().expect("there is memory"))));
-    assert_eq!(count, store.counts().pins, "{NAME}: each is kept");
+    let (of_one, ()) = left(count, || pins.extend((0..count).map(|_| table.pin().expect("there is memory"))));
+    assert_eq!(count, table.counts().pins, "{NAME}: each is kept");
     pins.clear();
     let few = count / 10;
     let (of_its_own, ()) = left(few, || {
         for update in sets.iter().step_by(10) {
-            pins.push(store.pin().expect("there is memory"));
-            commit(&store, &[*update]);
+            pins.push(table.pin().expect("there is memory"));
+            commit(&table, &[*update]);
         }
     });
-    assert_eq!(few, store.counts().pins, "{NAME}: each is kept");
+    assert_eq!(few, table.counts().pins, "{NAME}: each is kept");
     [("of one version", of_one), ("of a version of its own, one set apart", of_its_own)]
         .map(|(word, bytes)| Line::new(&[&"a pin", &word], vec![bytes, NONE, NONE]))
 }
 
 /// Commits that are kept, each of so many sets of rows that are in the Write-PDT already.
 fn kept_commits(rows: usize, count: usize, each: usize) -> Line {
-    let store = by_columns(rows);
-    let mut sets = set(&store, rows, count);
+    let table = by_columns(rows);
+    let mut sets = set(&table, rows, count);
     Drawn::new(37).shuffle(&mut sets);
-    store.cut();
+    table.trim();
     let commits = count / each;
-    let (bytes, ()) = left(commits, || sets.chunks(each).for_each(|sets| commit(&store, sets)));
-    assert_eq!((commits, count), (store.counts().kept, store.sizes().write_entries), "{NAME}: each is kept");
+    let (bytes, ()) = left(commits, || sets.chunks(each).for_each(|sets| commit(&table, sets)));
+    assert_eq!((commits, count), (table.counts().kept, table.sizes().write_entries), "{NAME}: each is kept");
     let word = if each == 1 { "of one set".to_string() } else { format!("of {each} sets") };
     Line::new(&[&"a commit that is kept", &word], vec![bytes, NONE, NONE])
 }
 
 /// Sets so many rows, which lie in the Write-PDT then.
-fn set(store: &Store, rows: usize, count: usize) -> Vec<Update> {
+fn set(table: &Table, rows: usize, count: usize) -> Vec<Update> {
     let sets = updates(rows, count, Mix::Sets);
-    drop(updated(store, KeyKind::Int, &sets, Place::WritePdt));
+    drop(updated(table, KeyKind::Int, &sets, Place::WritePdt));
     sets
 }
 
-fn commit(store: &Store, sets: &[Update]) {
-    let mut txn = begun(store);
+fn commit(table: &Table, sets: &[Update]) {
+    let mut txn = begun(table);
     for update in sets {
         txn.set([update.number], QTY_COLUMN, 2_000_000).expect("there is such a row");
     }

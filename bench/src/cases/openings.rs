@@ -2,8 +2,8 @@
 use super::Size;
 use crate::baseline::files;
 use crate::data::{KeyKind, name_of, numbers, qty_of, with_columns};
+use crate::figures::{Figures, Line, Unit, grouped};
 use crate::room::Room;
-use crate::table::{Line, Table, Unit, grouped};
 use crate::timing::{Turn, clocked, least, timed, way};
 use crate::updates::{begun, state};
 use narthexmace::{Database, DatabaseOptions, Options, SyncMode, cells};
@@ -15,7 +15,7 @@ pub const NAME: &str = "openings";
 const OPTIONS: DatabaseOptions = DatabaseOptions {
     sync: SyncMode::Off,
     early_reads: false,
-    upkeep: false,
+    maintenance: false,
     read_only: false,
     fold_entries: 1024,
     checkpoint_entries: 10_000,
@@ -24,7 +24,7 @@ const OPTIONS: DatabaseOptions = DatabaseOptions {
     mode: 0o666,
 };
 
-pub fn run(size: &Size) -> Table {
+pub fn run(size: &Size) -> Figures {
     let room = Room::new();
     let lines = [0, size.journal].map(|commits| {
         let folder = room.empty("kept");
@@ -37,7 +37,7 @@ pub fn run(size: &Size) -> Table {
         ];
         Line::new(&[&grouped(commits), &grouped(bytes)], least(NAME, size.rounds, ways))
     });
-    Table {
+    Figures {
         name: NAME,
         question: format!(
             "how long does the opening of a database take, whose image has {} rows, by how many commits of one row its \

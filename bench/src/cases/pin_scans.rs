@@ -1,7 +1,7 @@
 //! Scans of one pin, by threads, each with a transaction of its own.
 use super::{SHARES, Size, percent};
 use crate::data::{KeyKind, by_columns};
-use crate::table::{Line, Table, Unit, grouped};
+use crate::figures::{Figures, Line, Unit, grouped};
 use crate::threads::{THREADS, at_once};
 use crate::timing::{Turn, least, way};
 use crate::updates::{Mix, Place, image, sum, updated, updates};
@@ -12,8 +12,8 @@ pub const NAME: &str = "pin_scans";
 /// How many scans a thread makes in a turn.
 const SCANS: usize = 10;
 
-pub fn run(size: &Size) -> Table {
-    Table {
+pub fn run(size: &Size) -> Figures {
+    Figures {
         name: NAME,
         question: format!(
             "how many rows of a column are added up in a second by threads that scan one pin of {} rows, where updates \
@@ -30,9 +30,9 @@ pub fn run(size: &Size) -> Table {
 /// A line for each number of threads.
 fn lines(size: &Size, share: f64) -> Vec<Line> {
     let updates = updates(size.rows, percent(share, size.rows), Mix::Mixed);
-    let store = by_columns(size.rows);
-    drop(updated(&store, KeyKind::Int, &updates, Place::WritePdt));
-    let pin = store.pin().expect("there is memory");
+    let table = by_columns(size.rows);
+    drop(updated(&table, KeyKind::Int, &updates, Place::WritePdt));
+    let pin = table.pin().expect("there is memory");
     let mut vector: Vec<i64> = image(size.rows, &updates).into_values().collect();
     let once: i64 = vector.iter().sum();
     vector.shrink_to_fit();

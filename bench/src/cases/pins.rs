@@ -1,11 +1,11 @@
 //! Pins, and begins at one, by threads.
 use super::Size;
-use crate::data::{KeyKind, numbers, store};
-use crate::table::{Line, Table, Unit};
+use crate::data::{KeyKind, numbers, table};
+use crate::figures::{Figures, Line, Unit};
 use crate::threads::{THREADS, at_once};
 use crate::timing::{Turn, least, way};
 use crate::updates::begun;
-use narthexmace::{Pin, Store};
+use narthexmace::{Pin, Table};
 use std::hint::black_box;
 use std::sync::{Arc, Mutex};
 
@@ -14,16 +14,16 @@ pub const NAME: &str = "pins";
 /// How many commits come before: so many is the number of each pin.
 const COMMITS: usize = 3;
 
-pub fn run(size: &Size) -> Table {
+pub fn run(size: &Size) -> Figures {
     let rows = size.rows / 100;
-    let store = store(KeyKind::Int, rows);
+    let table = table(KeyKind::Int, rows);
     for number in numbers(rows).take(COMMITS) {
-        let mut txn = begun(&store);
+        let mut txn = begun(&table);
         txn.delete([number]).expect("there is such a row");
         txn.commit().expect("nobody else commits");
     }
-    let lines = [pinned, begun_at].map(|make| THREADS.map(|threads| make(size, &store, threads)));
-    Table {
+    let lines = [pinned, begun_at].map(|make| THREADS.map(|threads| make(size, &table, threads)));
+    Figures {
         name: NAME,
         question: "how many pins are made and let go, and how many transactions begin at a pin and are aborted, in a \
                    second, by several threads together?"
@@ -35,24 +35,24 @@ pub fn run(size: &Size) -> Table {
     }
 }
 
-fn pin(store: &Store) -> Pin<'_> {
-    store.pin().expect("there is memory")
+fn pin(table: &Table) -> Pin<'_> {
+    table.pin().expect("there is memory")
 }
 
 /// The numbers of all pins, added up.
-fn pinned(size: &Size, store: &Store, threads: usize) -> Line {
+fn pinned(size: &Size, table: &Table, threads: usize) -> Line {
     let calls = size.thread_calls;
     let ours = || {
-        let done = at_once(threads, |_| (0..calls).map(|_| pin(store).number() as i64).sum());
-        assert_eq!(0, store.counts().pins, "{NAME}: each pin is let go");
+        let done = at_once(threads, |_| (0..calls).map(|_| pin(table).number() as i64).sum());
+        assert_eq!(0, table.counts().pins, "{NAME}: each pin is let go");
         Turn { time: done.whole, answer: done.answer }
     };
     line(size, "a pin made and let go", threads, COMMITS as i64, ours)
 }
 
 /// The rows that the transactions see, added up.
-fn begun_at(size: &Size, store: &Store, threads: usize) -> Line {
-    let (calls, pin) = (size.thread_calls, pin(store));
+fn begun_at(size: &Size, table: &Table, threads: usize) -> Line {
+    let (calls, pin) = (size.thread_calls, pin(table));
     let rows = size.rows as i64 / 100 - COMMITS as i64;
     let ours = || {
         let begin = || pin.begin().expect("there is memory");

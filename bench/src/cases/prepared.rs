@@ -1,11 +1,11 @@
 //! Begins and aborts while another thread holds a commit prepared, and with nothing beside them.
 use super::Size;
-use crate::data::{KeyKind, store};
-use crate::table::{Line, Table, Unit};
+use crate::data::{KeyKind, table};
+use crate::figures::{Figures, Line, Unit};
 use crate::threads::{AtOnce, at_once};
 use crate::timing::{Turn, least, way};
 use crate::updates::begun;
-use narthexmace::Store;
+use narthexmace::Table;
 use std::hint::black_box;
 use std::sync::{Arc, Mutex, mpsc};
 use std::thread;
@@ -13,18 +13,18 @@ use std::time::{Duration, Instant};
 
 pub const NAME: &str = "prepared";
 
-pub fn run(size: &Size) -> Table {
+pub fn run(size: &Size) -> Figures {
     let rows = size.rows / 100;
-    let store = store(KeyKind::Int, rows);
+    let table = table(KeyKind::Int, rows);
     let mut lines = Vec::new();
     for beside in [Beside::Nothing, Beside::Prepared] {
         for threads in [1, 4] {
             for figure in [Figure::Mean, Figure::Worst] {
-                lines.push(Asked { beside, threads, figure, calls: size.thread_calls }.line(size.rounds, &store, rows));
+                lines.push(Asked { beside, threads, figure, calls: size.thread_calls }.line(size.rounds, &table, rows));
             }
         }
     }
-    Table {
+    Figures {
         name: NAME,
         question: "how long does a begin with its abort take in each of several threads, while another thread holds a \
                    commit prepared?"
@@ -52,12 +52,12 @@ impl Beside {
     }
 
     /// Makes a call while it is done.
-    fn during(self, store: &Store, call: impl FnOnce() -> AtOnce) -> AtOnce {
+    fn during(self, table: &Table, call: impl FnOnce() -> AtOnce) -> AtOnce {
         let Beside::Prepared = self else { return call() };
         let ((says, said), (ends, ended)) = (mpsc::channel(), mpsc::channel::<()>());
         thread::scope(|threads| {
             threads.spawn(move || {
-                let mut txn = begun(store);
+                let mut txn = begun(table);
                 txn.set([0], KeyKind::Int.qty_column(), 7).expect("there is such a row");
                 let prepared = txn.prepare().expect("nobody else commits");
                 says.send(()).expect("the call waits for it");
@@ -99,19 +99,19 @@ struct Asked {
 }
 
 impl Asked {
-    fn line(&self, rounds: usize, store: &Store, rows: usize) -> Line {
+    fn line(&self, rounds: usize, table: &Table, rows: usize) -> Line {
         let shared = Mutex::new(Arc::new(rows as i64));
         let newest = || Arc::clone(&shared.lock().expect("no thread has panicked"));
         let due = (self.threads * rows) as i64;
         let ways = vec![
-            way(self.calls, due, || self.turn(store, || begun(store), |txn| txn.rows() as i64)),
-            way(self.calls, due, || self.turn(store, newest, |rows| **rows)),
+            way(self.calls, due, || self.turn(table, || begun(table), |txn| txn.rows() as i64)),
+            way(self.calls, due, || self.turn(table, newest, |rows| **rows)),
         ];
         Line::new(&[&self.beside.word(), &self.threads, &self.figure.word()], least(NAME, rounds, ways))
     }
 
     /// Begins and ends in threads at once. What the last begin of each sees is added up.
-    fn turn<T>(&self, store: &Store, begin: impl Fn() -> T + Sync, seen: impl Fn(&T) -> i64 + Sync) -> Turn {
+    fn turn<T>(&self, table: &Table, begin: impl Fn() -> T + Sync, seen: impl Fn(&T) -> i64 + Sync) -> Turn {
         let worst = Mutex::new(Duration::ZERO);
         let timed = || {
             let start = Instant::now();
@@ -129,7 +129,7 @@ impl Asked {
             }
             seen(&begin())
         };
-        let done = self.beside.during(store, || at_once(self.threads, thread));
+        let done = self.beside.during(table, || at_once(self.threads, thread));
         let time = match self.figure {
             Figure::Mean => done.each,
             Figure::Worst => worst.into_inner().expect("no thread has panicked") * self.calls as u32,

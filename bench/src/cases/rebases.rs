@@ -2,7 +2,7 @@
 use super::Size;
 use crate::data::{KeyKind, csv, numbers, opened};
 use crate::drawn::Drawn;
-use crate::table::{Line, Table, Unit, grouped};
+use crate::figures::{Figures, Line, Unit, grouped};
 use crate::timing::{Turn, clocked, least, way};
 use crate::updates::{Change, Mix, Update, begun, image, make, state, updates};
 
@@ -18,7 +18,7 @@ pub struct Rebase {
     pub each: usize,
 }
 
-pub fn run(size: &Size) -> Table {
+pub fn run(size: &Size) -> Figures {
     let csv = csv(KeyKind::Int, numbers(size.rows));
     let line = |rebase: &Rebase, mix| {
         let writes = Writes::of(size.rows, rebase, mix);
@@ -30,7 +30,7 @@ pub fn run(size: &Size) -> Table {
     };
     let sets = size.rebases.iter().map(|rebase| line(rebase, Mix::Sets));
     let mixed = size.rebases.last().map(|rebase| line(rebase, Mix::Mixed));
-    Table {
+    Figures {
         name: NAME,
         question: format!(
             "how long does the commit of a transaction of sets take, past commits since its begin, over {} rows?",
@@ -70,16 +70,16 @@ impl Writes {
     }
 
     fn committed(&self, csv: &str, past: bool) -> Turn {
-        let store = opened(csv);
-        let mut txn = begun(&store);
+        let table = opened(csv);
+        let mut txn = begun(&table);
         make(&mut txn, KeyKind::Int, &self.own);
         for updates in self.since.iter().filter(|_| past) {
-            let mut other = begun(&store);
+            let mut other = begun(&table);
             make(&mut other, KeyKind::Int, updates);
             other.commit().expect("nobody else has changed these rows");
         }
         let (time, number) = clocked(|| txn.commit().expect("nobody else has changed these rows"));
         assert_eq!(if past { self.since.len() as u64 + 1 } else { 1 }, number, "{NAME}: the number of the commit");
-        Turn { time, answer: state(&begun(&store), KeyKind::Int.qty_column()) }
+        Turn { time, answer: state(&begun(&table), KeyKind::Int.qty_column()) }
     }
 }

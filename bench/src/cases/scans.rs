@@ -1,12 +1,12 @@
 //! Scans of one column, by how many rows are updated, how, and where the updates lie.
 use super::{SHARES, Size, percent};
 use crate::baseline::by_key::{AnyByKey, Search};
-use crate::data::{KeyKind, by_columns, store};
+use crate::data::{KeyKind, by_columns, table};
+use crate::figures::{Figures, Line, Unit, grouped};
 use crate::sqlite::{self, Database};
-use crate::table::{Line, Table, Unit, grouped};
 use crate::timing::{Way, least, whole};
 use crate::updates::{Mix, Place, Update, image, sum, sum_copied, updated, updates};
-use narthexmace::Store;
+use narthexmace::Table;
 use std::hint::black_box;
 
 pub const NAME: &str = "scans";
@@ -14,15 +14,15 @@ const KIND: KeyKind = KeyKind::Int;
 /// The numbers of a block of ours.
 const BLOCK: usize = 1_024;
 
-pub fn run(size: &Size) -> Table {
+pub fn run(size: &Size) -> Figures {
     let scan = Scan { size, database: sqlite::table(size.rows) };
-    let text = |rows| store(KIND, rows);
+    let text = |rows| table(KIND, rows);
     let mut lines =
         vec![scan.line(0.0, Mix::Sets, "-, read from a text", &text), scan.line(0.0, Mix::Sets, "-", &by_columns)];
     for mix in [Mix::Mixed, Mix::Sets] {
         lines.extend(SHARES.map(|share| scan.line(share, mix, mix.word(), &by_columns)));
     }
-    Table {
+    Figures {
         name: NAME,
         question: format!(
             "how long does the sum of a column of {} rows take, by where the updates lie?",
@@ -51,19 +51,19 @@ struct Scan<'s> {
 }
 
 impl Scan<'_> {
-    fn line(&self, share: f64, mix: Mix, word: &str, store: &dyn Fn(usize) -> Store) -> Line {
+    fn line(&self, share: f64, mix: Mix, word: &str, table: &dyn Fn(usize) -> Table) -> Line {
         let updates = updates(self.size.rows, percent(share, self.size.rows), mix);
         self.database.run("BEGIN");
         sqlite::make(&self.database, &updates);
-        let times = self.times(&updates, store);
+        let times = self.times(&updates, table);
         self.database.run("ROLLBACK");
         Line::new(&[&format!("{share} %"), &word], times)
     }
 
     /// The nanoseconds of a scan, the same updates at each place in turn, and then by each baseline.
-    fn times(&self, updates: &[Update], store: &dyn Fn(usize) -> Store) -> Vec<f64> {
-        let stores = Place::ALL.map(|_| store(self.size.rows));
-        let txns = [0, 1, 2].map(|it| updated(&stores[it], KIND, updates, Place::ALL[it]));
+    fn times(&self, updates: &[Update], table: &dyn Fn(usize) -> Table) -> Vec<f64> {
+        let tables = Place::ALL.map(|_| table(self.size.rows));
+        let txns = [0, 1, 2].map(|it| updated(&tables[it], KIND, updates, Place::ALL[it]));
         let by_key = AnyByKey::of(KIND, self.size.rows, updates);
         let vector: Vec<i64> = image(self.size.rows, updates).into_values().collect();
         let blocks: Vec<Vec<i64>> = vector.chunks(BLOCK).map(<[i64]>::to_vec).collect();

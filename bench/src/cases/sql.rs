@@ -2,8 +2,8 @@
 //! can, and on a table of SQLite's own.
 use super::{Size, percent};
 use crate::drawn::Drawn;
+use crate::figures::{Figures, Line, Unit, grouped};
 use crate::sqlite::{self, Bound, Database};
-use crate::table::{Line, Table, Unit, grouped};
 use crate::timing::{Way, least, whole};
 use crate::updates::{Mix, image, updates};
 use std::collections::BTreeMap;
@@ -12,7 +12,7 @@ pub const NAME: &str = "sql";
 const RANGE: &str = "SELECT sum(qty) FROM items WHERE id >= ? AND id < ?";
 const RANGE_ROWS: usize = 1_000;
 
-pub fn run(size: &Size) -> Table {
+pub fn run(size: &Size) -> Figures {
     let databases = Databases {
         ours: sqlite::virtual_table(size.rows),
         vector: sqlite::vector(size.rows),
@@ -25,7 +25,7 @@ pub fn run(size: &Size) -> Table {
         sqlite::make(database, &updates);
     }
     lines.push(databases.sum(size, "the sum, 1 % of the rows updated", &image(size.rows, &updates)));
-    Table {
+    Figures {
         name: NAME,
         question: format!("how long does a statement of SQL take over a table of {} rows?", grouped(size.rows)),
         unit: Unit::Time,

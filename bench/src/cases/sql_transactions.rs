@@ -2,15 +2,15 @@
 use super::Size;
 use crate::data::name_of;
 use crate::drawn::Drawn;
+use crate::figures::{Figures, Line, Unit, grouped};
 use crate::sqlite::{self, Bound, Database};
-use crate::table::{Line, Table, Unit, grouped};
 use crate::timing::{Turn, clocked, least, way};
 use crate::updates::image;
 
 pub const NAME: &str = "sql_transactions";
 const QTY: i64 = 1_000_000;
 
-pub fn run(size: &Size) -> Table {
+pub fn run(size: &Size) -> Figures {
     let (ours, own) = (sqlite::virtual_table(size.rows), sqlite::table(size.rows));
     let line = |write: Write| {
         let rows = write.rows(size);
@@ -18,7 +18,7 @@ pub fn run(size: &Size) -> Table {
         let ways = [&ours, &own].map(|database| way(rows.len(), due, || write.turn(database, &rows)));
         Line::new(&[&write.word()], least(NAME, size.rounds, ways.into()))
     };
-    Table {
+    Figures {
         name: NAME,
         question: format!(
             "how long does a transaction of SQL with one write take, from BEGIN to COMMIT, over {} rows?",

@@ -1,14 +1,14 @@
 //! Commits by one thread, by what they survive.
 use super::Size;
 use super::durable::{due, ours, theirs};
+use crate::figures::{Figures, Line, Unit};
 use crate::room::Room;
-use crate::table::{Line, Table, Unit};
 use crate::timing::{least, way};
 use narthexmace::SyncMode;
 
 pub const NAME: &str = "syncs";
 
-pub fn run(size: &Size) -> Table {
+pub fn run(size: &Size) -> Figures {
     let room = Room::new();
     let syncs = [
         ("full", "the machine", SyncMode::Full, "FULL"),
@@ -23,7 +23,7 @@ pub fn run(size: &Size) -> Table {
         ];
         Line::new(&[&word, &ends], least(NAME, size.rounds, ways))
     });
-    Table {
+    Figures {
         name: NAME,
         question: "how long does a commit of one row take, by its sync?".to_string(),
         unit: Unit::Time,

@@ -3,10 +3,10 @@ use super::Size;
 use crate::baseline::map::{Map, map_of, state_of};
 use crate::data::{KeyKind, by_columns};
 use crate::drawn::Drawn;
-use crate::table::{Line, Table, Unit, grouped};
+use crate::figures::{Figures, Line, Unit, grouped};
 use crate::tails::{Calls, FIGURES, Turns, middle};
 use crate::updates::{begun, image, state};
-use narthexmace::{Error, Store};
+use narthexmace::{Error, Table};
 use std::collections::BTreeMap;
 use std::hint::black_box;
 use std::sync::Mutex;
@@ -16,9 +16,9 @@ use std::time::Duration;
 
 pub const NAME: &str = "tails";
 
-pub fn run(size: &Size) -> Table {
+pub fn run(size: &Size) -> Figures {
     let asked = Asked::of(size);
-    Table {
+    Figures {
         name: NAME,
         question: format!(
             "how long do the begin and the commit of a transaction of one set take over {} rows, while another thread \
@@ -119,29 +119,29 @@ impl Asked {
     }
 
     fn ours(&self, beside: Beside, due: i64) -> [f64; 2 * FIGURES] {
-        let (store, column) = (by_columns(self.rows), KeyKind::Int.qty_column());
+        let (table, column) = (by_columns(self.rows), KeyKind::Int.qty_column());
         let transact = |row: i64, qty: i64, calls: &mut Calls| {
-            let mut txn = calls.begins.timed(|| begun(&store));
+            let mut txn = calls.begins.timed(|| begun(&table));
             txn.set([row], column, qty).expect("there is such a row");
             calls.commits.timed(|| txn.commit()).expect("nobody else sets these rows");
         };
-        let calls = self.turn(beside, transact, |progress| self.work(&store, beside, progress));
-        assert_eq!(due, state(&begun(&store), column), "{NAME}: another table than is due");
+        let calls = self.turn(beside, transact, |progress| self.dbtxn(&table, beside, progress));
+        assert_eq!(due, state(&begun(&table), column), "{NAME}: another table than is due");
         calls.figures()
     }
 
     /// Does once what is done beside the transactions.
-    fn work(&self, store: &Store, beside: Beside, progress: &Progress) {
+    fn dbtxn(&self, table: &Table, beside: Beside, progress: &Progress) {
         let pause = || progress.wait(self.sets.len() / beside.often());
         match beside {
             Beside::Nothing => {}
             Beside::Folds => {
                 pause();
-                store.fold().expect("there is memory");
+                table.fold().expect("there is memory");
             }
             Beside::Cuts => {
                 pause();
-                store.cut();
+                table.trim();
             }
             Beside::Checkpoints => {
                 pause();
@@ -150,11 +150,11 @@ impl Asked {
                     bytes += part.len();
                     Ok::<(), Error>(())
                 };
-                store.checkpoint_to(take).expect("there is memory");
+                table.checkpoint_to(take).expect("there is memory");
                 assert!(bytes > self.rows, "{NAME}: a checkpoint has some bytes for each row");
             }
             Beside::LateCommits => {
-                let mut txn = begun(store);
+                let mut txn = begun(table);
                 for row in &self.late {
                     txn.set([*row], KeyKind::Int.qty_column(), LATE_QTY).expect("there is such a row");
                 }
@@ -170,11 +170,11 @@ impl Asked {
             calls.begins.timed(|| drop(locked()));
             calls.commits.timed(|| locked().get_mut(&row).expect("there is such a row").qty = qty);
         };
-        let work = |progress: &Progress| {
+        let dbtxn = |progress: &Progress| {
             progress.wait(self.sets.len() / beside.often());
             self.work_on(&mut locked(), beside);
         };
-        let calls = self.turn(beside, transact, work);
+        let calls = self.turn(beside, transact, dbtxn);
         assert_eq!(due, state_of(&locked()), "{NAME}: another map than is due");
         calls.figures()
     }
@@ -197,16 +197,16 @@ impl Asked {
         &self,
         beside: Beside,
         mut transact: impl FnMut(i64, i64, &mut Calls),
-        work: impl Fn(&Progress) + Sync,
+        dbtxn: impl Fn(&Progress) + Sync,
     ) -> Calls {
         let progress = Progress { committed: AtomicUsize::new(0), all: self.sets.len() };
         let mut calls = Calls::of(self.sets.len());
         thread::scope(|threads| {
             if beside != Beside::Nothing {
                 threads.spawn(|| {
-                    work(&progress);
+                    dbtxn(&progress);
                     while !progress.is_over() {
-                        work(&progress);
+                        dbtxn(&progress);
                     }
                 });
             }

@@ -1,11 +1,11 @@
 //! Scans of a column of texts, by how many rows are updated: inserts, deletes, and texts that are set.
 use super::{SHARES, Size, percent};
 use crate::data::{by_columns, last_byte, name_of, numbers};
+use crate::figures::{Figures, Line, Unit, grouped};
 use crate::sqlite::{self, Bound, Database};
-use crate::table::{Line, Table, Unit, grouped};
 use crate::timing::{least, whole};
 use crate::updates::{Change, Mix, Update, begun, updates};
-use narthexmace::{Batch, Store, Transaction, cells};
+use narthexmace::{Batch, Table, Transaction, cells};
 use std::collections::BTreeMap;
 use std::hint::black_box;
 
@@ -15,9 +15,9 @@ const NAME_COLUMN: usize = 1;
 /// How many rows a scan asks for at a time.
 const BATCH: usize = 8_192;
 
-pub fn run(size: &Size) -> Table {
+pub fn run(size: &Size) -> Figures {
     let shares = [0.0, SHARES[1], SHARES[2]];
-    Table {
+    Figures {
         name: NAME,
         question: format!(
             "how long does a scan of a column of {} texts of 8 bytes take, where inserts, deletes and set texts lie in \
@@ -33,12 +33,12 @@ pub fn run(size: &Size) -> Table {
 
 fn line(size: &Size, share: f64) -> Line {
     let updates = updates(size.rows, percent(share, size.rows), Mix::Mixed);
-    let (store, database) = (by_columns(size.rows), sqlite::table(size.rows));
-    make(&store, &updates);
+    let (table, database) = (by_columns(size.rows), sqlite::table(size.rows));
+    make(&table, &updates);
     make_in_sqlite(&database, &updates);
     let strings: Vec<String> = names(size.rows, &updates).into_values().collect();
     let due = strings.iter().map(|name| weight(name)).sum();
-    let txn = begun(&store);
+    let txn = begun(&table);
     assert_eq!(strings.len() as u64, txn.rows(), "{NAME}: as many rows as in the image");
     let mut query = database.statement("SELECT name FROM items");
     let ways = vec![
@@ -78,8 +78,8 @@ fn names(rows: usize, updates: &[Update]) -> BTreeMap<i64, String> {
 }
 
 /// Makes the updates, which set names where others set quantities, and folds them.
-fn make(store: &Store, updates: &[Update]) {
-    let mut txn = begun(store);
+fn make(table: &Table, updates: &[Update]) {
+    let mut txn = begun(table);
     for Update { number, change } in updates {
         let written = match change {
             Change::Insert(qty) => txn.insert(cells![*number, &name_of(*number), *qty]),
@@ -89,7 +89,7 @@ fn make(store: &Store, updates: &[Update]) {
         written.expect("the row is as it should be");
     }
     txn.commit().expect("nobody else commits");
-    store.fold().expect("there is memory");
+    table.fold().expect("there is memory");
 }
 
 fn make_in_sqlite(database: &Database, updates: &[Update]) {

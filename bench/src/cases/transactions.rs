@@ -1,9 +1,9 @@
 //! Transactions in a second, by threads.
 use super::Size;
 use crate::baseline::map::{map_of, state_of};
-use crate::data::{KeyKind, store};
+use crate::data::{KeyKind, table};
+use crate::figures::{Figures, Line, Unit, grouped};
 use crate::sqlite::{self, Bound};
-use crate::table::{Line, Table, Unit, grouped};
 use crate::threads::{THREADS, at_once};
 use crate::timing::{Turn, least, way};
 use crate::updates::{begun, image, state};
@@ -12,9 +12,9 @@ use std::sync::Mutex;
 
 pub const NAME: &str = "transactions";
 
-pub fn run(size: &Size) -> Table {
+pub fn run(size: &Size) -> Figures {
     let rows = size.rows / 100;
-    Table {
+    Figures {
         name: NAME,
         question: format!(
             "how many transactions of one look-up and one set of a row of their own are committed in a second, \
@@ -61,18 +61,18 @@ fn line(size: &Size, rows: usize, threads: usize) -> Line {
 }
 
 fn ours(own: &Own) -> Turn {
-    let store = store(KeyKind::Int, own.rows);
+    let table = table(KeyKind::Int, own.rows);
     let column = KeyKind::Int.qty_column();
     let done = at_once(own.threads, |thread| {
         for (row, qty) in own.of(thread) {
-            let mut txn = begun(&store);
+            let mut txn = begun(&table);
             assert!(txn.get([row]).expect("there is memory").is_some(), "there is such a row");
             txn.set([row], column, qty).expect("there is such a row");
             txn.commit().expect("no thread sets another one's rows");
         }
         0
     });
-    Turn { answer: state(&begun(&store), column), time: done.whole }
+    Turn { answer: state(&begun(&table), column), time: done.whole }
 }
 
 fn in_map(own: &Own) -> Turn {

@@ -1,7 +1,7 @@
 //! Scans of the column of keys, of which nothing changes, while other columns or rows do.
 use super::{SHARES, Size, percent};
 use crate::data::{KeyKind, by_columns};
-use crate::table::{Line, Table, Unit, grouped};
+use crate::figures::{Figures, Line, Unit, grouped};
 use crate::timing::{least, whole};
 use crate::updates::{Mix, Place, image, sum, sum_copied, updated, updates};
 use std::hint::black_box;
@@ -10,8 +10,8 @@ pub const NAME: &str = "untouched";
 /// The column of the keys.
 const KEYS: usize = 0;
 
-pub fn run(size: &Size) -> Table {
-    Table {
+pub fn run(size: &Size) -> Figures {
+    Figures {
         name: NAME,
         question: format!(
             "how long does the sum of the keys of {} rows take, while the quantities of some were set, in the Read-PDT?",
@@ -26,8 +26,8 @@ pub fn run(size: &Size) -> Table {
 
 fn line(size: &Size, share: f64) -> Line {
     let updates = updates(size.rows, percent(share, size.rows), Mix::Sets);
-    let store = by_columns(size.rows);
-    let txn = updated(&store, KeyKind::Int, &updates, Place::ReadPdt);
+    let table = by_columns(size.rows);
+    let txn = updated(&table, KeyKind::Int, &updates, Place::ReadPdt);
     let vector: Vec<i64> = image(size.rows, &updates).into_keys().collect();
     let due = vector.iter().sum();
     let ways = vec![

@@ -2,11 +2,11 @@
 use super::Size;
 use crate::data::numbers;
 use crate::drawn::{Drawn, scattered};
+use crate::figures::{Figures, Line, Unit, grouped};
 use crate::sqlite::{Bound, Database};
-use crate::table::{Line, Table, Unit, grouped};
 use crate::timing::{Turn, Way, clocked, least, way, whole};
 use crate::updates::{begun, state, sum_copied};
-use narthexmace::{ColumnValues, Options, Row, Store, Transaction};
+use narthexmace::{ColumnValues, Options, Row, Table, Transaction};
 use std::cell::RefCell;
 use std::hint::black_box;
 
@@ -17,14 +17,14 @@ const WIDTHS: [usize; 2] = [4, 32];
 /// How many rows are inserted into vectors, which move all rows behind each.
 const FEW: usize = 20;
 
-pub fn run(size: &Size) -> Table {
+pub fn run(size: &Size) -> Figures {
     let mut lines: [Vec<Line>; 3] = Default::default();
     for width in WIDTHS {
         for (lines, line) in lines.iter_mut().zip(three_lines(size, width)) {
             lines.push(line);
         }
     }
-    Table {
+    Figures {
         name: NAME,
         question: format!(
             "how long do an insert in an open transaction, the row at a position and the sum of a column take over {} \
@@ -41,11 +41,11 @@ pub fn run(size: &Size) -> Table {
 /// The lines of a table of so many columns.
 fn three_lines(size: &Size, width: usize) -> [Line; 3] {
     let wide = Wide::of(size.rows, width);
-    let (store, database) = (wide.store(), wide.database());
-    let txn = begun(&store);
+    let (table, database) = (wide.table(), wide.database());
+    let txn = begun(&table);
     let asked = Asked::of(size, width);
     let calls = [
-        ("insert", asked.inserts(&wide, &store, &database)),
+        ("insert", asked.inserts(&wide, &table, &database)),
         ("row at a position", asked.rows_at(&wide, &txn, &database)),
         ("sum of a column", wide.sums(&txn, &database)),
     ];
@@ -83,14 +83,14 @@ impl Wide {
         last.iter().sum::<i64>() + last.len() as i64
     }
 
-    fn store(&self) -> Store {
+    fn table(&self) -> Table {
         let (columns, names) = (self.columns.borrow(), names(self.last + 1));
         let columns: Vec<(&str, ColumnValues<'_>)> = names
             .iter()
             .zip(columns.iter())
             .map(|(name, column)| (name.as_str(), ColumnValues::Ints(column)))
             .collect();
-        Store::from_columns(&columns, 1, &Options::default()).expect("the columns are a table")
+        Table::from_columns(&columns, 1, &Options::default()).expect("the columns are a table")
     }
 
     fn database(&self) -> Database {
@@ -177,11 +177,11 @@ impl Asked {
         }
     }
 
-    fn inserts<'a>(&'a self, wide: &'a Wide, store: &'a Store, database: &'a Database) -> Vec<Way<'a>> {
+    fn inserts<'a>(&'a self, wide: &'a Wide, table: &'a Table, database: &'a Database) -> Vec<Way<'a>> {
         let (before, few) = (wide.state(), &self.rows[..FEW.min(self.rows.len())]);
         let due = |rows: &[Vec<i64>]| before + rows.iter().map(|row| row[wide.last] + 1).sum::<i64>();
         vec![
-            way(self.rows.len(), due(&self.rows), || self.inserted(store, wide.last)),
+            way(self.rows.len(), due(&self.rows), || self.inserted(table, wide.last)),
             way(few.len(), due(few), move || {
                 let (time, ()) = clocked(|| few.iter().for_each(|row| wide.insert(row)));
                 let answer = wide.state();
@@ -192,8 +192,8 @@ impl Asked {
         ]
     }
 
-    fn inserted(&self, store: &Store, last: usize) -> Turn {
-        let mut txn = begun(store);
+    fn inserted(&self, table: &Table, last: usize) -> Turn {
+        let mut txn = begun(table);
         let (time, ()) = clocked(|| {
             for row in &self.rows {
                 txn.insert(row.iter().copied()).expect("there is no such row");

@@ -1,13 +1,13 @@
 //! Writes in a transaction, by the size of the Write-PDT below it.
 use super::Size;
 use crate::baseline::map::{Map, Record, map_of, state_of};
-use crate::data::{KeyKind, name_of, store};
+use crate::data::{KeyKind, name_of, table};
 use crate::drawn::Drawn;
+use crate::figures::{Figures, Line, Unit, grouped};
 use crate::sqlite::{self, Bound, Database};
-use crate::table::{Line, Table, Unit, grouped};
 use crate::timing::{Turn, clocked, least, way};
 use crate::updates::{Mix, Place, begun, image, state, updated, updates};
-use narthexmace::{Store, Transaction, cells};
+use narthexmace::{Table, Transaction, cells};
 use std::collections::BTreeMap;
 
 pub const NAME: &str = "writes";
@@ -32,24 +32,24 @@ impl Kind {
     }
 }
 
-pub fn run(size: &Size) -> Table {
+pub fn run(size: &Size) -> Figures {
     let database = sqlite::table(size.rows);
     let mut lines: [Vec<Line>; 3] = Default::default();
     for entries in size.entries {
         let updates = updates(size.rows, *entries, Mix::Mixed);
-        let store = store(KeyKind::Int, size.rows);
-        drop(updated(&store, KeyKind::Int, &updates, Place::WritePdt));
+        let table = table(KeyKind::Int, size.rows);
+        drop(updated(&table, KeyKind::Int, &updates, Place::WritePdt));
         database.run("BEGIN");
         sqlite::make(&database, &updates);
         let image = image(size.rows, &updates);
         for (lines, kind) in lines.iter_mut().zip(Kind::ALL) {
-            let times = Writes::of(kind, &image, size.calls.min(size.rows / 10)).times(size, &store, &image, &database);
+            let times = Writes::of(kind, &image, size.calls.min(size.rows / 10)).times(size, &table, &image, &database);
             lines.push(Line::new(&[&kind.word(), &grouped(*entries)], times));
         }
         database.run("ROLLBACK");
     }
     let rows = grouped(size.rows);
-    Table {
+    Figures {
         name: NAME,
         question: format!("how long does a write in an open transaction take, over a table of {rows} rows?"),
         unit: Unit::Time,
@@ -78,11 +78,11 @@ impl Writes {
         Writes { kind, rows: numbers[..calls].iter().map(|number| (*number, name_of(*number), qty)).collect() }
     }
 
-    fn times(&self, size: &Size, store: &Store, image: &BTreeMap<i64, i64>, database: &Database) -> Vec<f64> {
+    fn times(&self, size: &Size, table: &Table, image: &BTreeMap<i64, i64>, database: &Database) -> Vec<f64> {
         let due = self.due(image);
         let map = map_of(image);
         let ways = vec![
-            way(self.rows.len(), due, || self.ours(begun(store))),
+            way(self.rows.len(), due, || self.ours(begun(table))),
             way(self.rows.len(), due, || self.in_map(map.clone())),
             way(self.rows.len(), due, || self.in_sqlite(database)),
         ];

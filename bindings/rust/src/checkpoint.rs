@@ -1,0 +1,96 @@
+//! A checkpoint while others commit.
+use crate::error::done;
+use crate::keeper::Keeper;
+use crate::table::path_of;
+use crate::{Error, Table, Transaction, ffi};
+use std::fmt;
+use std::path::Path;
+use std::ptr::{self, NonNull};
+
+/// A checkpoint that has begun: the table as it was then. Commits wait neither for the making of its table nor for its
+/// files. It may be sent to another thread, and ends when it is dropped; what it wrote stays.
+///
+/// ```no_run
+/// use narthexmace::{Error, Options, Table};
+/// let table = Table::open("id:int:key,qty:int\n10,7\n", &Options::default())?;
+/// let mut checkpoint = table.begin_checkpoint()?;
+/// checkpoint.write("checkpoints/7")?; // others commit meanwhile
+/// println!("the log is needed from commit {} on", checkpoint.number() + 1);
+/// checkpoint.install()?;
+/// # Ok::<(), Error>(())
+/// ```
+#[must_use = "a checkpoint that is dropped ends, and is not installed"]
+pub struct Checkpoint<'s> {
+    raw: NonNull<ffi::OpenCheckpoint>,
+    number: u64,
+    table: Keeper<'s>,
+}
+
+// SAFETY: a `pdt_open_checkpoint` is used by one thread at a time, whichever that is: only a call with `&mut self` uses it.
+unsafe impl Send for Checkpoint<'_> {}
+
+impl<'s> Checkpoint<'s> {
+    /// A checkpoint that has just begun.
+    ///
+    /// # Safety
+    /// `raw` has begun over this table, at the commit of this number, and nobody else has it.
+    pub(crate) unsafe fn adopt(raw: NonNull<ffi::OpenCheckpoint>, number: u64, table: Keeper<'s>) -> Checkpoint<'s> {
+        Checkpoint { raw, number, table }
+    }
+
+    /// The number of its table: what a program has logged of later commits has to stay.
+    pub fn number(&self) -> u64 {
+        self.number
+    }
+
+    /// The table that it is of.
+    pub fn table(&self) -> &Table {
+        &self.table
+    }
+
+    /// Writes its table into a folder, as [`Table::checkpoint`] does. Once it answers `Ok` the table is durable.
+    ///
+    /// [`Error::Exists`], [`Error::Io`], [`Error::NoMemory`]: what was written is removed, and it may be called again;
+    /// [`Error::Misuse`] once it is done, and of a path that no file can have.
+    pub fn write(&mut self, folder: impl AsRef<Path>) -> Result<(), Error> {
+        let folder = path_of(folder.as_ref())?;
+        // SAFETY: the checkpoint has not ended; the path ends with a zero, and is there during the call.
+        done(unsafe { ffi::pdt_checkpoint_write(self.raw.as_ptr(), folder.as_ptr()) })
+    }
+
+    /// Begins a transaction over its table, whatever was committed since, as [`Pin::begin`](crate::Pin::begin) does. Before the install
+    /// its row runs are over the stable table that the checkpoint replaces: who has a column in files of its own writes
+    /// the next one by them. [`Error::NoMemory`].
+    pub fn begin(&mut self) -> Result<Transaction<'s>, Error> {
+        let mut raw = ptr::null_mut();
+        // SAFETY: the checkpoint has not ended, and its table is kept, and so is open.
+        done(unsafe { ffi::pdt_checkpoint_read(self.raw.as_ptr(), &mut raw) })?;
+        let raw = NonNull::new(raw).expect("a begin that is done hands out a transaction");
+        // SAFETY: the transaction is open, over this table, and nobody else has it.
+        Ok(unsafe { Transaction::adopt(raw, self.table.clone()) })
+    }
+
+    /// Makes what was written the stable table in memory. The commits since the begin stay in the Write-PDT, and no
+    /// table changes; commits wait for a handful of allocations.
+    ///
+    /// [`Error::Superseded`] where a fold or another checkpoint came since the begin: what was written stays good.
+    /// [`Error::NoMemory`]: it may be called again. [`Error::Misuse`] before [`write`](Checkpoint::write) is done, and
+    /// once this is.
+    pub fn install(&mut self) -> Result<(), Error> {
+        // SAFETY: the checkpoint has not ended, and its table is open, since it is kept.
+        done(unsafe { ffi::pdt_checkpoint_install(self.raw.as_ptr()) })
+    }
+}
+
+impl Drop for Checkpoint<'_> {
+    fn drop(&mut self) {
+        // SAFETY: the checkpoint has not ended, and nothing uses it any more; its table is kept, and so is open.
+        unsafe { ffi::pdt_checkpoint_end(self.raw.as_ptr()) };
+    }
+}
+
+impl fmt::Debug for Checkpoint<'_> {
+    fn fmt(&self, f: &mut fmt::Formatter<'_>) -> fmt::Result {
+        f.debug_struct("Checkpoint").field("number", &self.number).finish_non_exhaustive()
+    }
+}

@@ -1,0 +1,318 @@
+//! Tables over columns that the caller has, and images as bytes.
+use crate::error::done;
+use crate::{ColumnType, Error, Options, Table, ffi};
+use std::any::Any;
+use std::ffi::{CString, c_int, c_void};
+use std::fmt;
+use std::panic::{AssertUnwindSafe, catch_unwind, resume_unwind};
+use std::ptr;
+
+/// The values of a column that is handed over, one for each row.
+#[derive(Clone, Copy, Debug)]
+pub enum ColumnValues<'a> {
+    /// Numbers.
+    Ints(&'a [i64]),
+    /// Texts: where each begins in the bytes, and where the last one ends.
+    Texts {
+        /// One for each row, and one more; none descends, and none passes the bytes.
+        offsets: &'a [u64],
+        /// UTF-8, at most 4,096 bytes for each text.
+        bytes: &'a [u8],
+    },
+    /// Booleans.
+    Bools(&'a [bool]),
+    /// Values that stay with the caller, of a column that is none of the key: 0, a text of no bytes or false stands for each until a
+    /// transaction sets it. [`Transaction::row_runs`](crate::Transaction::row_runs) says where the rows are.
+    Outside {
+        /// Their type.
+        column_type: ColumnType,
+        /// How many there are.
+        rows: usize,
+    },
+}
+
+impl ColumnValues<'_> {
+    /// How many values there are.
+    pub fn rows(&self) -> usize {
+        match self {
+            ColumnValues::Ints(ints) => ints.len(),
+            ColumnValues::Texts { offsets, .. } => offsets.len().saturating_sub(1),
+            ColumnValues::Bools(booleans) => booleans.len(),
+            ColumnValues::Outside { rows, .. } => *rows,
+        }
+    }
+
+    fn passed(&self, name: &CString) -> ffi::Column {
+        let mut column = ffi::Column {
+            name: name.as_ptr(),
+            column_type: ffi::INT,
+            rows: self.rows() as u64,
+            numbers: ptr::null(),
+            offsets: ptr::null(),
+            bytes: ptr::null(),
+            len: 0,
+        };
+        match self {
+            ColumnValues::Ints(ints) => column.numbers = ints.as_ptr(),
+            ColumnValues::Texts { offsets, bytes } => {
+                column.column_type = ffi::TEXT;
+                column.offsets = offsets.as_ptr();
+                column.bytes = bytes.as_ptr();
+                column.len = bytes.len();
+            }
+            ColumnValues::Bools(booleans) => {
+                column.column_type = ffi::BOOL;
+                column.bytes = booleans.as_ptr().cast();
+            }
+            ColumnValues::Outside { column_type, .. } => column.column_type = column_type.passed() | ffi::OUTSIDE,
+        }
+        column
+    }
+}
+
+/// A name with a zero behind it. [`Error::BadTable`] where it has one, [`Error::NoMemory`].
+pub(crate) fn passed_name(name: &str) -> Result<CString, Error> {
+    let mut bytes = Vec::new();
+    bytes.try_reserve_exact(name.len() + 1)?;
+    bytes.extend_from_slice(name.as_bytes());
+    CString::new(bytes).map_err(|_| Error::BadTable)
+}
+
+/// Columns as the library takes them: where their values lie, and their names, each with a zero.
+pub(crate) struct Passed<'a> {
+    columns: &'a [(&'a str, ColumnValues<'a>)],
+    names: Vec<CString>,
+}
+
+impl<'a> Passed<'a> {
+    pub(crate) fn of(columns: &'a [(&'a str, ColumnValues<'a>)]) -> Result<Passed<'a>, Error> {
+        let mut names = Vec::new();
+        names.try_reserve_exact(columns.len())?;
+        for (name, _) in columns {
+            names.push(passed_name(name)?);
+        }
+        Ok(Passed { columns, names })
+    }
+
+    /// Makes a call of the library that opens a table over them.
+    pub(crate) fn open(
+        &self,
+        call: impl FnOnce(&[ffi::Column], *mut ffi::Place, *mut *mut ffi::Table) -> c_int,
+    ) -> Result<*mut ffi::Table, ColumnsError> {
+        let mut passed = Vec::new();
+        passed.try_reserve_exact(self.columns.len()).map_err(Error::from)?;
+        passed.extend(self.columns.iter().zip(&self.names).map(|((_, values), name)| values.passed(name)));
+        let (mut place, mut raw) = (ffi::Place::default(), ptr::null_mut());
+        let code = call(&passed, &mut place, &mut raw);
+        let ffi::Place { row, column } = place;
+        match code {
+            ffi::SHAPE => Err(ColumnsError::Value { row, column }),
+            ffi::NOT_ASCENDING => Err(ColumnsError::NotAscending { row }),
+            code => {
+                done(code)?;
+                Ok(raw)
+            }
+        }
+    }
+}
+
+/// Why columns make no table. Rows and columns count from 0.
+#[derive(Clone, Copy, Debug, PartialEq, Eq)]
+pub enum ColumnsError {
+    /// The value at this row of this column is none of its type, or the column ends before that row, or goes on past
+    /// the first column: a text has offsets that descend or pass the bytes, is no UTF-8, or has more than 4,096 bytes.
+    Value {
+        /// The first such row of the column.
+        row: u64,
+        /// The first such column.
+        column: u64,
+    },
+    /// The key of this row isn't above that of the row before it.
+    NotAscending {
+        /// The first such row.
+        row: u64,
+    },
+    /// [`Error::BadTable`]: the names, the types and the key make no columns; [`Error::TooManyRows`],
+    /// [`Error::BadLimit`], [`Error::NoMemory`]; [`Error::Misuse`] of a table of a database whose values stay with the caller.
+    Other(Error),
+}
+
+impl From<Error> for ColumnsError {
+    fn from(error: Error) -> ColumnsError {
+        ColumnsError::Other(error)
+    }
+}
+
+impl From<ColumnsError> for Error {
+    fn from(error: ColumnsError) -> Error {
+        match error {
+            ColumnsError::Value { .. } => Error::TypeMismatch,
+            ColumnsError::NotAscending { .. } => Error::NotAscending,
+            ColumnsError::Other(error) => error,
+        }
+    }
+}
+
+impl fmt::Display for ColumnsError {
+    fn fmt(&self, f: &mut fmt::Formatter<'_>) -> fmt::Result {
+        Error::from(*self).fmt(f)?;
+        match self {
+            ColumnsError::Value { row, column } => write!(f, ": row {row} of column {column}"),
+            ColumnsError::NotAscending { row } => write!(f, ": row {row}"),
+            ColumnsError::Other(_) => Ok(()),
+        }
+    }
+}
+
+impl std::error::Error for ColumnsError {}
+
+/// Which bytes of an image these are.
+#[derive(Clone, Copy, Debug, PartialEq, Eq, Hash)]
+pub enum CheckpointPart {
+    /// Those of the header, which come first.
+    Header,
+    /// Those of a column, the first being number 0.
+    Column(usize),
+}
+
+/// Why a checkpoint's bytes were not all handed out.
+#[derive(Debug)]
+pub enum CheckpointError<E> {
+    /// What took the bytes failed so at this part; nothing was asked of it after that.
+    Write(CheckpointPart, E),
+    /// [`Error::NoMemory`], or [`Error::Misuse`] of a thread that has a commit of the table prepared: nothing was
+    /// handed out.
+    Other(Error),
+}
+
+impl<E: fmt::Display> fmt::Display for CheckpointError<E> {
+    fn fmt(&self, f: &mut fmt::Formatter<'_>) -> fmt::Result {
+        match self {
+            CheckpointError::Write(CheckpointPart::Header, error) => {
+                write!(f, "{}: header: {error}", Error::DeviceFailed)
+            }
+            CheckpointError::Write(CheckpointPart::Column(column), error) => {
+                write!(f, "{}: column {column}: {error}", Error::DeviceFailed)
+            }
+            CheckpointError::Other(error) => error.fmt(f),
+        }
+    }
+}
+
+impl<E: std::error::Error> std::error::Error for CheckpointError<E> {}
+
+/// What takes the bytes of a part of an image.
+type TakeBytes<'w, E> = dyn FnMut(CheckpointPart, &[u8]) -> Result<(), E> + 'w;
+
+/// A writer that is called from C, how it failed, and a panic that is not to pass through C.
+struct Writer<'w, E> {
+    write: &'w mut TakeBytes<'w, E>,
+    failed: Option<(CheckpointPart, E)>,
+    panic: Option<Box<dyn Any + Send>>,
+}
+
+/// # Safety
+/// The context is a `Writer<E>` that nothing else uses, and the bytes are there during the call.
+unsafe extern "C" fn take_bytes<E>(context: *mut c_void, column: usize, bytes: *const u8, len: usize) -> c_int {
+    // SAFETY: the caller promises it.
+    let (writer, bytes) = unsafe { (&mut *context.cast::<Writer<'_, E>>(), std::slice::from_raw_parts(bytes, len)) };
+    let part = if column == ffi::HEADER { CheckpointPart::Header } else { CheckpointPart::Column(column) };
+    match catch_unwind(AssertUnwindSafe(|| (writer.write)(part, bytes))) {
+        Ok(Ok(())) => return 0,
+        Ok(Err(error)) => writer.failed = Some((part, error)),
+        Err(panic) => writer.panic = Some(panic),
+    }
+    1
+}
+
+impl Table {
+    /// Opens a table over columns, the first `key` of which are the key, with their rows in ascending key. The values
+    /// are copied into the table, and no row is made.
+    ///
+    /// ```
+    /// use narthexmace::{ColumnValues, ColumnsError, Options, Table};
+    /// let id = ColumnValues::Ints(&[10, 20]);
+    /// let name = ColumnValues::Texts { offsets: &[0, 3, 6], bytes: b"AnnBob" };
+    /// let table = Table::from_columns(&[("id", id), ("name", name)], 1, &Options::default())?;
+    /// assert_eq!(Some("Bob"), table.begin()?.row_at(1)?.unwrap()[1].as_text());
+    /// let twice = Table::from_columns(&[("id", ColumnValues::Ints(&[10, 10]))], 1, &Options::default());
+    /// assert_eq!(Some(ColumnsError::NotAscending { row: 1 }), twice.err());
+    /// # Ok::<(), narthexmace::Error>(())
+    /// ```
+    pub fn from_columns(
+        columns: &[(&str, ColumnValues<'_>)],
+        key: usize,
+        options: &Options,
+    ) -> Result<Table, ColumnsError> {
+        let options = options.passed()?;
+        let raw = Passed::of(columns)?.open(|columns, place, raw| {
+            // SAFETY: each column has as many values as it says, where it says; all is there during the call.
+            unsafe { ffi::pdt_open_columns(columns.as_ptr(), columns.len(), key, &options, place, raw) }
+        })?;
+        // SAFETY: an opening that is done hands out a table.
+        Ok(unsafe { Table::adopt(raw) }?)
+    }
+
+    /// Opens a table over an image that [`checkpoint_to`](Table::checkpoint_to) handed out: the bytes of its header,
+    /// and of its columns.
+    ///
+    /// [`Error::BadTable`] (the header), [`Error::BadCheckpoint`], [`Error::NoCheckpoint`], [`Error::TooManyRows`],
+    /// [`Error::BadLimit`], [`Error::NoMemory`].
+    pub fn recover_from(header: &[u8], columns: &[&[u8]], options: &Options) -> Result<Table, Error> {
+        let options = options.passed()?;
+        let mut passed = Vec::new();
+        passed.try_reserve_exact(columns.len())?;
+        passed.extend(columns.iter().map(|bytes| ffi::Bytes { at: bytes.as_ptr().cast(), len: bytes.len() }));
+        let (mut generation, mut raw) = (0, ptr::null_mut());
+        // SAFETY: each pointer and its length are one slice's; all is there during the call.
+        done(unsafe {
+            ffi::pdt_recover_from(
+                header.as_ptr().cast(),
+                header.len(),
+                passed.as_ptr(),
+                passed.len(),
+                &options,
+                &mut generation,
+                &mut raw,
+            )
+        })?;
+        // SAFETY: a recovery that is done hands out a table.
+        unsafe { Table::adopt(raw) }
+    }
+
+    /// Hands the bytes that store the newest table to `write`, in order: those of the header, then of each column. In
+    /// memory it is the stable table then. Who takes the bytes makes them durable. Begins and commits wait only while
+    /// they are made, and `write` may itself make calls on the table. A panic of `write` goes on from here.
+    ///
+    /// ```
+    /// use narthexmace::{CheckpointPart, Options, Table};
+    /// let table = Table::open("id:int:key\n10\n", &Options::default())?;
+    /// let (mut header, mut column) = (Vec::new(), Vec::new());
+    /// table
+    ///     .checkpoint_to(|part, bytes| {
+    ///         if part == CheckpointPart::Header { &mut header } else { &mut column }.extend_from_slice(bytes);
+    ///         Ok::<(), ()>(())
+    ///     })
+    ///     .unwrap();
+    /// let again = Table::recover_from(&header, &[&column], &Options::default())?;
+    /// assert_eq!(1, again.begin()?.rows());
+    /// # Ok::<(), narthexmace::Error>(())
+    /// ```
+    pub fn checkpoint_to<E>(
+        &self,
+        mut write: impl FnMut(CheckpointPart, &[u8]) -> Result<(), E>,
+    ) -> Result<(), CheckpointError<E>> {
+        let mut writer = Writer { write: &mut write, failed: None, panic: None };
+        // SAFETY: the table is open while `self` is there; the writer is there during the call, and used by it alone.
+        let code = unsafe {
+            ffi::pdt_checkpoint_to(self.as_raw(), take_bytes::<E>, (&raw mut writer).cast(), ptr::null_mut())
+        };
+        if let Some(panic) = writer.panic {
+            resume_unwind(panic);
+        }
+        match writer.failed {
+            Some((part, error)) => Err(CheckpointError::Write(part, error)),
+            None => done(code).map_err(CheckpointError::Other),
+        }
+    }
+}

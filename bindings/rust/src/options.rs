@@ -1,0 +1,41 @@
+//! What a table is opened with.
+use crate::{Error, ffi};
+
+/// What a table is opened with.
+#[derive(Clone, Copy, Debug, PartialEq, Eq)]
+pub struct Options {
+    /// How many commits may come between a transaction's begin and its commit: 1 to 65,536, which is the default.
+    pub recent: usize,
+    /// How many rows a table may have: 1 to 2,147,483,647, which is the default.
+    pub row_limit: u64,
+    /// Which changes of one row conflict: by column, which is the default, or by row.
+    pub conflicts: ConflictRule,
+}
+
+/// Which changes of one row conflict. An insert, a delete or a replacement of the row conflicts by either rule.
+#[derive(Clone, Copy, Debug, Default, PartialEq, Eq)]
+pub enum ConflictRule {
+    /// Those of one column.
+    #[default]
+    ByColumn,
+    /// Any two.
+    ByRow,
+}
+
+impl Default for Options {
+    fn default() -> Options {
+        Options { recent: 65_536, row_limit: 2_147_483_647, conflicts: ConflictRule::ByColumn }
+    }
+}
+
+impl Options {
+    /// For the library, to which a zero stands for the default: here it is a limit outside its range.
+    pub(crate) fn passed(&self) -> Result<ffi::Options, Error> {
+        if self.recent == 0 || self.row_limit == 0 {
+            return Err(Error::BadLimit);
+        }
+        let by_row = self.conflicts == ConflictRule::ByRow;
+        let size = size_of::<ffi::Options>();
+        Ok(ffi::Options { size, recent: self.recent, row_limit: self.row_limit, by_row })
+    }
+}

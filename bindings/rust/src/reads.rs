@@ -1,0 +1,231 @@
+//! What a transaction reads.
+use crate::batch::{self, Batch, Batches};
+use crate::cells::{filled, row_of};
+use crate::error::done;
+use crate::table::ColumnType;
+use crate::transaction::{Ending, Rank, TEXT_ROOM};
+use crate::{CellRef, Error, Row, RowRuns, Transaction, ffi, texts};
+use std::ffi::{c_int, c_void};
+use std::ops::{Bound, RangeBounds};
+
+impl<E: Ending> Transaction<'_, E> {
+    /// How many rows there are.
+    pub fn rows(&self) -> u64 {
+        let mut rows = 0;
+        // SAFETY: the transaction is open.
+        let code = unsafe { ffi::pdt_rows(self.raw(), &mut rows) };
+        debug_assert_eq!(ffi::OK, code);
+        rows
+    }
+
+    /// Where a key stands: a range of keys is the positions between two ranks. In logarithmic time.
+    /// [`Error::TypeMismatch`], [`Error::NoMemory`].
+    pub fn rank<'c, C: Into<CellRef<'c>>>(&self, key: impl IntoIterator<Item = C>) -> Result<Rank, Error> {
+        let key = self.key(key)?;
+        let mut rank = Rank { below: 0, there: false };
+        let (below, there) = (&mut rank.below, &mut rank.there);
+        // SAFETY: the transaction is open; there are as many numbers as key columns, and as many bytes as is said.
+        done(unsafe { ffi::pdt_rank(self.raw(), key.numbers(), key.texts(), key.bytes(), below, there) })?;
+        Ok(rank)
+    }
+
+    /// The row of a key, or none. [`Error::TypeMismatch`], [`Error::NoMemory`].
+    pub fn get<'c, C: Into<CellRef<'c>>>(&self, key: impl IntoIterator<Item = C>) -> Result<Option<Row>, Error> {
+        let key = self.key(key)?;
+        self.read_row(|numbers, out, room, needed| {
+            // SAFETY: the transaction is open; the key is as many numbers as key columns, and as many bytes as is said;
+            // `read_row` hands in room for a row.
+            unsafe { ffi::pdt_get(self.raw(), key.numbers(), key.texts(), key.bytes(), numbers, out, room, needed) }
+        })
+    }
+
+    /// The row at a position, or none past the end. [`Error::NoMemory`].
+    pub fn row_at(&self, position: u64) -> Result<Option<Row>, Error> {
+        self.read_row(|numbers, out, room, needed| {
+            // SAFETY: the transaction is open; `read_row` hands in room for a row.
+            unsafe { ffi::pdt_row_at(self.raw(), position, numbers, out, room, needed) }
+        })
+    }
+
+    /// The cells of chosen columns between two positions, cut to the end of the table: see [`Batch`].
+    /// [`Error::TypeMismatch`] of a column that isn't there, [`Error::NoMemory`].
+    pub fn batch(&self, columns: &[usize], positions: impl RangeBounds<u64>) -> Result<Batch<'_>, Error> {
+        let (from, to) = self.within(positions);
+        Batch::read(&self.open, columns, from, to)
+    }
+
+    /// The same, in batches of so many rows, one at least; the last one has what is left. [`Error::TypeMismatch`] of a
+    /// column that isn't there, [`Error::NoMemory`]; and each batch of its own [`Error::NoMemory`], after which none
+    /// comes.
+    ///
+    /// ```
+    /// use narthexmace::{Error, Options, Table};
+    /// let table = Table::open("id:int:key,qty:int\n10,7\n20,2\n30,4\n", &Options::default())?;
+    /// let txn = table.begin()?;
+    /// let mut sums = Vec::new();
+    /// for batch in txn.batches(&[1], .., 2)? {
+    ///     sums.push(batch?.ints(0).unwrap().iter().sum::<i64>());
+    /// }
+    /// assert_eq!(vec![9, 4], sums);
+    /// # Ok::<(), Error>(())
+    /// ```
+    pub fn batches(
+        &self,
+        columns: &[usize],
+        positions: impl RangeBounds<u64>,
+        rows: usize,
+    ) -> Result<Batches<'_>, Error> {
+        let (from, to) = self.within(positions);
+        Batches::over(&self.open, columns, from, to, rows)
+    }
+
+    /// The texts of a text column between two positions, cut to the end of the table, each borrowed where it lies: no
+    /// byte is copied, and no write, commit or abort of the transaction compiles while one is there.
+    /// [`Error::TypeMismatch`] of a column that isn't there or isn't one of texts, [`Error::NoMemory`].
+    ///
+    /// ```
+    /// use narthexmace::{Error, Options, Table};
+    /// let table = Table::open("id:int:key,name:text\n10,Ann\n20,Bob\n30,\n", &Options::default())?;
+    /// let mut txn = table.begin()?;
+    /// txn.set([20], 1, "Rob")?;
+    /// assert_eq!(vec!["Rob", ""], txn.texts(1, 1..)?);
+    /// # Ok::<(), Error>(())
+    /// ```
+    pub fn texts(&self, column: usize, positions: impl RangeBounds<u64>) -> Result<Vec<&str>, Error> {
+        let (from, to) = self.within(positions);
+        texts::lent(&self.open, column, from, to)
+    }
+
+    /// The numbers of an int column from a position on, as many as there is room for and rows to the end of the table. Answers how
+    /// many were written; those after them stay. They are copied, which takes less time than the spans of a batch once
+    /// rows are changed, and most of all after a fold. [`Error::TypeMismatch`] of a column that isn't there or isn't
+    /// one of ints.
+    ///
+    /// ```
+    /// use narthexmace::{Error, Options, Table};
+    /// let table = Table::open("id:int:key,qty:int\n10,7\n20,2\n30,4\n", &Options::default())?;
+    /// let txn = table.begin()?;
+    /// let mut numbers = [9; 4];
+    /// assert_eq!(2, txn.ints(1, 1, &mut numbers)?);
+    /// assert_eq!([2, 4, 9, 9], numbers);
+    /// # Ok::<(), Error>(())
+    /// ```
+    pub fn ints(&self, column: usize, from: u64, numbers: &mut [i64]) -> Result<usize, Error> {
+        if self.table().columns().get(column).ok_or(Error::TypeMismatch)?.column_type != ColumnType::Int {
+            return Err(Error::TypeMismatch);
+        }
+        batch::numbers(&self.open, column, from, numbers)
+    }
+
+    /// The booleans of a bool column from a position on, a byte of 0 or 1 for each, as many as there is room for and
+    /// rows to the end of the table. Answers how many bytes were written; those after them stay.
+    /// [`Error::TypeMismatch`] of a column that isn't there or isn't one of booleans.
+    ///
+    /// ```
+    /// use narthexmace::{Error, Options, Table};
+    /// let table = Table::open("id:int:key,ok:bool\n10,true\n20,false\n30,true\n", &Options::default())?;
+    /// let txn = table.begin()?;
+    /// let mut booleans = [9; 4];
+    /// assert_eq!(2, txn.bools(1, 1, &mut booleans)?);
+    /// assert_eq!([0, 1, 9, 9], booleans);
+    /// # Ok::<(), Error>(())
+    /// ```
+    pub fn bools(&self, column: usize, from: u64, booleans: &mut [u8]) -> Result<usize, Error> {
+        if self.table().columns().get(column).ok_or(Error::TypeMismatch)?.column_type != ColumnType::Bool {
+            return Err(Error::TypeMismatch);
+        }
+        batch::booleans(&self.open, column, from, booleans)
+    }
+
+    /// What the rows between two positions are made of, cut to the end of the table, in order: stable rows as they are, stable rows that
+    /// layers change, and rows that they insert. No key is read.
+    ///
+    /// Read over the rows of the stable table they are those rows, and so they are over any other rows that are as many. Who has a
+    /// column of the table's in files of its own ([`ColumnValues::Outside`](crate::ColumnValues::Outside)) reads it there by the SIDs, and
+    /// the cells that a row has of its own from the table. The stable table is that of the last checkpoint before the transaction
+    /// began, or else that of the opening.
+    ///
+    /// ```
+    /// use narthexmace::{ColumnType, ColumnValues, Error, Options, RowRun, Table};
+    /// let mine = [7, 2, 4]; // the values of qty, which the library never sees
+    /// let qty = ColumnValues::Outside { column_type: ColumnType::Int, rows: 3 };
+    /// let columns = [("id", ColumnValues::Ints(&[10, 20, 30])), ("qty", qty)];
+    /// let table = Table::from_columns(&columns, 1, &Options::default())?;
+    /// let mut txn = table.begin()?;
+    /// txn.insert([15, 5])?;
+    /// txn.set([20], 1, 3)?;
+    /// let (mut read, mut own) = (Vec::new(), [0]);
+    /// for row_run in txn.row_runs(..) {
+    ///     let position = row_run.position();
+    ///     match row_run {
+    ///         RowRun::Stable { sid, rows, .. } => read.extend_from_slice(&mine[sid as usize..][..rows as usize]),
+    ///         RowRun::Changed { sid, .. } if !txn.changed(position)?[1] => read.push(mine[sid as usize]),
+    ///         RowRun::Changed { .. } | RowRun::Inserted { .. } => {
+    ///             txn.ints(1, position, &mut own)?;
+    ///             read.push(own[0]);
+    ///         }
+    ///     }
+    /// }
+    /// assert_eq!(vec![7, 5, 3, 4], read);
+    /// # Ok::<(), Error>(())
+    /// ```
+    pub fn row_runs(&self, positions: impl RangeBounds<u64>) -> RowRuns<'_> {
+        let (from, to) = self.within(positions);
+        RowRuns::over(&self.open, from, to)
+    }
+
+    /// Which columns of the row at a position are its own, a boolean for each column: false where the cell is that of
+    /// the stable row, whatever that holds. Those of an inserted row are all true. [`Error::Missing`] past the end,
+    /// [`Error::NoMemory`].
+    pub fn changed(&self, position: u64) -> Result<Vec<bool>, Error> {
+        let mut bytes = [0u8; ffi::MAX_COLUMNS];
+        let width = self.table().columns().len();
+        // SAFETY: the transaction is open, and a table has at most so many columns.
+        done(unsafe { ffi::pdt_changed(self.raw(), position, bytes.as_mut_ptr(), width) })?;
+        let mut changed = Vec::new();
+        changed.try_reserve_exact(width)?;
+        changed.extend(bytes[..width].iter().map(|byte| *byte != 0));
+        Ok(changed)
+    }
+
+    /// The positions from the first up to but without the second, both cut to the length of the table.
+    fn within(&self, positions: impl RangeBounds<u64>) -> (u64, u64) {
+        let rows = self.rows();
+        let from = match positions.start_bound() {
+            Bound::Included(from) => *from,
+            Bound::Excluded(before) => before.saturating_add(1),
+            Bound::Unbounded => 0,
+        };
+        let to = match positions.end_bound() {
+            Bound::Included(last) => last.saturating_add(1),
+            Bound::Excluded(to) => *to,
+            Bound::Unbounded => rows,
+        };
+        let to = to.min(rows);
+        (from.min(to), to)
+    }
+
+    /// Reads a row by a call of the library, which is handed room for as many numbers as columns, and for texts: first
+    /// what does for most rows, then what the library asked for.
+    fn read_row(&self, call: impl Fn(*mut i64, *mut c_void, usize, *mut usize) -> c_int) -> Result<Option<Row>, Error> {
+        let mut numbers = [0; ffi::MAX_COLUMNS];
+        let mut first = [0u8; TEXT_ROOM];
+        let mut more;
+        let mut room = &mut first[..];
+        loop {
+            let mut needed = 0;
+            match call(numbers.as_mut_ptr(), room.as_mut_ptr().cast(), room.len(), &mut needed) {
+                ffi::MISSING => return Ok(None),
+                ffi::TOO_SMALL => {
+                    more = filled(needed, 0u8)?;
+                    room = &mut more;
+                }
+                code => {
+                    done(code)?;
+                    let texts = std::str::from_utf8(&room[..needed]).expect("the texts of a row are UTF-8");
+                    return row_of(self.table().columns(), &numbers, texts).map(Some);
+                }
+            }
+        }
+    }
+}

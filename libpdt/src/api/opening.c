@@ -1,0 +1,259 @@
+/* Opening tables: over a text, over columns, and over the bytes of an image. */
+#define _DEFAULT_SOURCE
+#include "inside.h"
+
+#include <stdio.h>
+#include <sys/mman.h>
+
+/* ---- headers */
+
+size_t pdti_add_heading(char *text, size_t len, const char *name, size_t bytes, int type, bool is_key) {
+  static const char *const words[] = {"", "int", "text", "bool"};
+  if (len) text[len++] = ',';
+  text[len++] = '"';
+  for (size_t i = 0; i < bytes; i++) {
+    if (name[i] == '"') text[len++] = '"';
+    text[len++] = name[i];
+  }
+  return len + (size_t)sprintf(text + len, ":%s%s\"", words[type], is_key ? ":key" : "");
+}
+
+size_t pdti_header(const pdt_table *table, char *text) {
+  size_t len = 0;
+  for (size_t column = 0; column < table->width; column++)
+    len = pdti_add_heading(text, len, table->names[column], table->name_bytes[column], table->types[column], column < table->key);
+  text[len++] = '\n';
+  return len;
+}
+
+/* ---- options */
+
+int pdti_options_of(const pdt_options *given, pdt_options *options) {
+  *options = (pdt_options){sizeof *options, PDT_MAX_RECENT, PDT_MAX_ROWS, false};
+  if (!given) return PDT_OK;
+  pdt_options asked;
+  if (pdti_take_struct(&asked, sizeof asked, given, sizeof asked)) return PDT_MISUSE;
+  if (asked.recent) options->recent = asked.recent;
+  if (asked.row_limit) options->row_limit = asked.row_limit;
+  options->by_row = asked.by_row;
+  return PDT_OK;
+}
+
+/* ---- texts */
+
+/* Makes the condition that a table's waits wait for. */
+static int make_condition(pthread_cond_t *moved) {
+  pthread_condattr_t kind;
+  if (pthread_condattr_init(&kind)) return -1;
+  int bad = pthread_condattr_setclock(&kind, CLOCK_MONOTONIC) || pthread_cond_init(moved, &kind);
+  pthread_condattr_destroy(&kind);
+  return bad ? -1 : 0;
+}
+
+/* Makes the locks of a table outside a database and its condition, or none of them. */
+static int make_own(pdt_table *table) {
+  if (make_condition(&table->moved)) return -1;
+  if (!pdti_make_locks(&table->own_locks)) return 0;
+  pthread_cond_destroy(&table->moved);
+  return -1;
+}
+
+int pdti_adopt(pdt_table *table, const pdt_options *options, pdt_table **out) {
+  if (make_own(table)) {
+    pdtr_close(&table->raw);
+    free(table);
+    return PDT_NOMEM;
+  }
+  table->locks = &table->own_locks;
+  table->recent = options->recent;
+  (void)pdtr_pin(&table->raw, &table->fresh);
+  table->width = pdtr_width(&table->raw);
+  table->key = pdtr_key_columns(&table->raw);
+  for (size_t column = 0; column < table->width; column++) {
+    table->types[column] = (int)pdtr_type(&table->raw, column);
+    table->name_bytes[column] = pdtr_name(&table->raw, column, (uint8_t *)table->names[column], PDT_MAX_NAME);
+  }
+  *out = table;
+  return PDT_OK;
+}
+
+/* What is told of the first fault of a text: a cause of which there is no sentence has the code's. */
+static pdt_fault fault_of(const pdti_text_fault *found) {
+  static const char *const text_faults[] = {
+      NULL,
+      "there is no header",
+      "the cell isn't a name of 1 to 64 bytes, a colon and a type, or it is a key column after one that is not",
+      "the header has no column",
+      "the header has more than 32 columns",
+      "the key has no column, or more than 4",
+      "the column has the name of an earlier one",
+      "the record has not as many cells as the header",
+      "the text is not UTF-8",
+      "the cell is no value of the column's type",
+      "the text has more than 4,096 bytes",
+      "the key is that of an earlier record",
+  };
+  bool is_known = found->cause && found->cause < sizeof text_faults / sizeof *text_faults;
+  return (pdt_fault){{found->row, found->column}, is_known ? text_faults[found->cause] : pdt_code_text(PDT_BAD_TABLE)};
+}
+
+pdt_code pdt_open(const void *csv, size_t bytes, const pdt_options *options, pdt_table **out) {
+  return pdt_open_csv(csv, bytes, options, NULL, out);
+}
+
+pdt_code pdt_open_csv(const void *csv, size_t bytes, const pdt_options *options, pdt_fault *fault, pdt_table **out) {
+  if (!out) return PDT_MISUSE;
+  *out = NULL;
+  pdt_options asked;
+  if ((!csv && bytes) || pdti_options_of(options, &asked)) return PDT_MISUSE;
+  pdt_table *table = calloc(1, sizeof *table);
+  if (!table) return PDT_NOMEM;
+  pdti_text_fault found = {0, 0, 0};
+  int code = (int)pdtr_open(bytes_at(csv, bytes), bytes, asked.recent, asked.row_limit, asked.by_row, &found, &table->raw);
+  if (code == PDT_BAD_TABLE && fault) *fault = fault_of(&found);
+  if (code) {
+    free(table);
+    return code;
+  }
+  return pdti_adopt(table, &asked, out);
+}
+
+/* It is the text of a table with no rows. */
+int pdti_width_of(const uint8_t *header, size_t len, size_t *width) {
+  pdti_handle raw = {NULL};
+  pdti_text_fault found = {0, 0, 0};
+  int code = (int)pdtr_open(bytes_at(header, len), len, 1, PDT_MAX_ROWS, false, &found, &raw);
+  if (code) return code;
+  *width = pdtr_width(&raw);
+  pdtr_close(&raw);
+  return PDT_OK;
+}
+
+/* ---- columns that the caller hands over */
+
+/* What is passed of each column: nothing but what its type has. */
+typedef struct {
+  pdti_numbers numbers[PDT_MAX_COLUMNS];
+  pdti_offsets offsets[PDT_MAX_COLUMNS];
+  pdti_slice bytes[PDT_MAX_COLUMNS];
+} pdti_passed;
+
+/* What stands for the values that stay with the caller: pages that nobody writes to, which are the system's one page of zeros. */
+typedef struct {
+  void *at;
+  size_t len;
+} pdti_zeros;
+
+/* Maps as many as the longest of the columns that stay outside wants: a text begins at each row, and ends at one more. */
+static int map_zeros(pdti_zeros *map, const pdt_column *columns, size_t count) {
+  size_t most = 0;
+  for (size_t i = 0; i < count; i++)
+    if (columns[i].type & PDT_OUTSIDE && columns[i].rows <= PDT_MAX_ROWS && columns[i].rows >= most) most = (size_t)columns[i].rows + 1;
+  if (!most) return PDT_OK;
+  size_t len = most * sizeof(uint64_t);
+  void *at = mmap(NULL, len, PROT_READ, MAP_PRIVATE | MAP_ANONYMOUS | MAP_NORESERVE, -1, 0);
+  if (at == MAP_FAILED) return PDT_NOMEM;
+  *map = (pdti_zeros){at, len};
+  return PDT_OK;
+}
+
+/* A column whose values stay with the caller: 0, no text and false stand for them. */
+static int pass_outside(pdti_passed *all, size_t at, const pdt_column *column, const pdti_zeros *map) {
+  size_t rows = (size_t)column->rows;
+  if (column->numbers || column->offsets || column->bytes || column->len) return PDT_MISUSE;
+  switch (column->type & ~PDT_OUTSIDE) {
+    case PDT_INT: all->numbers[at] = (pdti_numbers){map->at, rows}; return PDT_OK;
+    case PDT_BOOL: all->bytes[at] = (pdti_slice){map->at, rows}; return PDT_OK;
+    default: all->offsets[at] = (pdti_offsets){map->at, rows + 1}; return PDT_OK;
+  }
+}
+
+static int pass_column(pdti_passed *all, size_t at, const pdt_column *column, const pdti_zeros *map) {
+  static const uint64_t no_offsets[1];
+  size_t rows = (size_t)column->rows;
+  all->numbers[at] = (pdti_numbers){pdti_no_numbers, 0};
+  all->offsets[at] = (pdti_offsets){no_offsets, 0};
+  all->bytes[at] = (pdti_slice){pdti_no_bytes, 0};
+  if (column->rows > PDT_MAX_ROWS) return PDT_TOO_MANY_ROWS;
+  if (column->type & PDT_OUTSIDE) return pass_outside(all, at, column, map);
+  if (!rows) return PDT_OK;
+  switch (column->type) {
+    case PDT_INT: all->numbers[at] = (pdti_numbers){column->numbers, rows}; return column->numbers ? PDT_OK : PDT_MISUSE;
+    case PDT_BOOL: all->bytes[at] = (pdti_slice){column->bytes, rows}; return column->bytes ? PDT_OK : PDT_MISUSE;
+    default:
+      all->offsets[at] = (pdti_offsets){column->offsets, rows + 1};
+      all->bytes[at] = (pdti_slice){bytes_at(column->bytes, column->len), column->len};
+      return column->offsets && (column->bytes || !column->len) ? PDT_OK : PDT_MISUSE;
+  }
+}
+
+/* Puts the header of columns, of whose names, types and number so much is tested as room for it wants. */
+static int head_columns(const pdt_column *columns, size_t count, size_t key, char *text, size_t *len) {
+  if (!count || count > PDT_MAX_COLUMNS || !key || key > count) return PDT_BAD_TABLE;
+  for (size_t column = 0; column < count; column++) {
+    const pdt_column *one = &columns[column];
+    if (!one->name) return PDT_MISUSE;
+    size_t bytes = strnlen(one->name, PDT_MAX_NAME + 1);
+    int type = column < key ? one->type : one->type & ~PDT_OUTSIDE; /* the key's values never stay outside */
+    if (bytes > PDT_MAX_NAME || type < PDT_INT || type > PDT_BOOL) return PDT_BAD_TABLE;
+    *len = pdti_add_heading(text, *len, one->name, bytes, type, column < key);
+  }
+  text[(*len)++] = '\n';
+  return PDT_OK;
+}
+
+pdt_code pdt_open_columns(const pdt_column *columns, size_t count, size_t key, const pdt_options *options, pdt_place *place,
+                          pdt_table **out) {
+  if (!out) return PDT_MISUSE;
+  *out = NULL;
+  pdt_options asked;
+  if ((!columns && count) || pdti_options_of(options, &asked)) return PDT_MISUSE;
+  char header[CSV_HEADER_BYTES];
+  size_t len = 0;
+  pdt_place at = {0, 0};
+  int code = head_columns(columns, count, key, header, &len);
+  if (code) return code;
+  pdti_passed *all = malloc(sizeof *all);
+  pdt_table *table = calloc(1, sizeof *table);
+  pdti_zeros map = {NULL, 0};
+  if (!all || !table || map_zeros(&map, columns, count)) code = PDT_NOMEM;
+  for (size_t column = 0; column < count && !code; column++) code = pass_column(all, column, &columns[column], &map);
+  if (!code)
+    code = (int)pdtr_open_columns((const uint8_t *)header, len, (size_t)columns[0].rows, all->numbers, count, all->offsets, count,
+                                  all->bytes, count, asked.recent, asked.row_limit, asked.by_row, &at, &table->raw);
+  free(all);
+  if (map.len) munmap(map.at, map.len);
+  if (place) *place = at;
+  if (code) {
+    free(table);
+    return code;
+  }
+  return pdti_adopt(table, &asked, out);
+}
+
+/* ---- images as bytes */
+
+pdt_code pdt_recover_from(const void *header, size_t len, const pdt_bytes *columns, size_t count, const pdt_options *options,
+                          uint32_t *generation, pdt_table **out) {
+  if (!out) return PDT_MISUSE;
+  *out = NULL;
+  pdt_options asked;
+  if ((!header && len) || (!columns && count) || pdti_options_of(options, &asked)) return PDT_MISUSE;
+  if (count > PDT_MAX_COLUMNS) return PDT_BAD_CHECKPOINT;
+  pdti_slice slices[PDT_MAX_COLUMNS] = {{pdti_no_bytes, 0}};
+  for (size_t column = 0; column < count; column++) {
+    if (!columns[column].at && columns[column].len) return PDT_MISUSE;
+    slices[column] = (pdti_slice){bytes_at(columns[column].at, columns[column].len), columns[column].len};
+  }
+  pdt_table *table = calloc(1, sizeof *table);
+  if (!table) return PDT_NOMEM;
+  uint32_t found = 0;
+  int code = (int)pdtr_recover(bytes_at(header, len), len, slices, count, asked.recent, asked.row_limit, asked.by_row, &found,
+                               &table->raw);
+  if (code) {
+    free(table);
+    return code;
+  }
+  if (generation) *generation = found;
+  return pdti_adopt(table, &asked, out);
+}

@@ -1,0 +1,182 @@
+/* What the numbers of int columns are declared as; of a table of a database in a file beside its image, types-TABLE:
+
+     COLUMN FORMAT              of each column that is declared, by its place
+     end CHECK                  of all bytes before this line
+
+   Who knows nothing of it opens the database without it: the table is the same. */
+#include "arrow.h"
+#include "database.h"
+
+#include <fcntl.h>
+#include <inttypes.h>
+#include <stdio.h>
+
+enum { LINE = PDTI_FORMAT_BYTES + 16, END = 13 };
+
+const char *pdt_declared(const pdt_table *table, size_t column) {
+  bool is_there = table && column < table->width && *table->declared[column];
+  return is_there ? table->declared[column] : NULL;
+}
+
+void pdti_copy_declared(const pdt_table *table, size_t column, char *format) {
+  pthread_mutex_lock(&table->locks->fresh_lock);
+  strcpy(format, table->declared[column]);
+  pthread_mutex_unlock(&table->locks->fresh_lock);
+}
+
+pdt_code pdt_declared_copy(const pdt_table *table, size_t column, char *format, size_t room) {
+  if (!table || (!format && room)) return PDT_MISUSE;
+  if (column >= table->width) return PDT_TYPE_MISMATCH;
+  char copy[PDTI_FORMAT_BYTES];
+  pdti_copy_declared(table, column, copy);
+  size_t len = strlen(copy) + 1;
+  if (len > room) return PDT_TOO_SMALL;
+  memcpy(format, copy, len);
+  return PDT_OK;
+}
+
+bool pdti_may_declare(const pdt_table *table, size_t column, const char *format) {
+  pdti_format as;
+  if (column >= table->width || table->types[column] != PDT_INT || strlen(format) >= PDTI_FORMAT_BYTES) return false;
+  return pdti_read_format(format + (*format == '?'), &as) && pdti_goes_out(PDT_INT, &as) && (*format != '?' || column >= table->key);
+}
+
+/* ---- files */
+
+static void name_types(char *name, uint32_t member) { snprintf(name, FILE_NAME, "types-%" PRIu32, member); }
+
+static uint32_t check_of(const char *bytes, size_t len) { return pdtr_check((uint32_t)CHECK_SEED, (const uint8_t *)bytes, len); }
+
+/* The file's text, for which there is room for a line of each column and one more. */
+static size_t put_types(const pdt_table *table, char *text) {
+  size_t len = 0;
+  for (size_t column = 0; column < table->width; column++)
+    if (*table->declared[column]) len += (size_t)snprintf(text + len, LINE, "%zu %s\n", column, table->declared[column]);
+  return len + (size_t)snprintf(text + len, LINE, "end %08" PRIx32 "\n", check_of(text, len));
+}
+
+int pdti_write_types(pdt_database *database, const pdti_member *entry) {
+  char name[FILE_NAME], text[(PDT_MAX_COLUMNS + 1) * LINE];
+  name_types(name, entry->number);
+  size_t len = put_types(entry->table, text);
+  if (len == END) return PDT_OK; /* of a new table, of which no other is there */
+  int file = pdti_make_in(database, database->dir, name, O_WRONLY | O_TRUNC);
+  return file < 0 ? PDT_IO : pdti_close_synced(file, pdti_write_to(file, text, len));
+}
+
+/* Writes it anew for a table that is there: one or the other file is there after a crash. */
+static int rewrite_types(pdt_database *database, const pdti_member *entry) {
+  char name[FILE_NAME], text[(PDT_MAX_COLUMNS + 1) * LINE];
+  name_types(name, entry->number);
+  size_t len = put_types(entry->table, text);
+  int file = pdti_make_in(database, database->dir, "types-new", O_WRONLY | O_TRUNC);
+  int code = file < 0 ? PDT_IO : pdti_close_synced(file, pdti_write_to(file, text, len));
+  if (!code && renameat(database->dir, "types-new", database->dir, name)) code = PDT_IO;
+  if (code) pdti_remove_in(database->dir, "types-new");
+  return code ? code : pdti_sync_in(database->dir);
+}
+
+/* Takes a line of the text, and answers where the next one begins; null where it isn't as it is written. */
+static const char *take_line(pdt_table *table, const char *at) {
+  size_t column = 0;
+  int digits = 0;
+  for (; *at >= '0' && *at <= '9' && digits < 3; at++, digits++) column = 10 * column + (size_t)(*at - '0');
+  const char *end = strchr(at, '\n');
+  if (!digits || *at++ != ' ' || !end || end - at >= PDTI_FORMAT_BYTES || end <= at) return NULL;
+  char format[PDTI_FORMAT_BYTES];
+  memcpy(format, at, (size_t)(end - at));
+  format[end - at] = 0;
+  if (!pdti_may_declare(table, column, format)) return NULL;
+  strcpy(table->declared[column], format);
+  return end + 1;
+}
+
+static int take_types(pdt_table *table, pdti_buffer *bytes) {
+  if (bytes->len < END || pdti_reserve(bytes, 1)) return bytes->len < END ? PDT_CORRUPT : PDT_NOMEM;
+  char *text = (char *)bytes->at, last[END + 1];
+  size_t len = bytes->len - END;
+  snprintf(last, sizeof last, "end %08" PRIx32 "\n", check_of(text, len));
+  if (memcmp(text + len, last, END) || memchr(text, 0, len)) return PDT_CORRUPT;
+  text[len] = 0;
+  const char *at = text;
+  while (at && *at) at = take_line(table, at);
+  return at ? PDT_OK : PDT_CORRUPT;
+}
+
+int pdti_read_types(pdt_database *database, pdti_member *entry, char *file) {
+  pdti_buffer bytes = {NULL, 0, 0};
+  name_types(file, entry->number);
+  int code = pdti_read_in(database->dir, file, &bytes);
+  code = code == PDT_MISSING ? PDT_OK : code ? code : take_types(entry->table, &bytes);
+  free(bytes.at);
+  return code;
+}
+
+void pdti_remove_types(pdt_database *database, uint32_t member) {
+  char name[FILE_NAME];
+  name_types(name, member);
+  pdti_remove_in(database->dir, name);
+}
+
+/* ---- the calls */
+
+/* Declares a column in memory: others read formats meanwhile. */
+static void set_declared(pdt_table *table, size_t column, const char *format) {
+  pthread_mutex_lock(&table->locks->fresh_lock);
+  strcpy(table->declared[column], format);
+  pthread_mutex_unlock(&table->locks->fresh_lock);
+}
+
+static int declare_in(pdt_database *database, pdt_table *table, size_t column, const char *format) {
+  char before[PDTI_FORMAT_BYTES];
+  if (!pdti_is_ours(database) || pdti_has_prepared(database)) return PDT_MISUSE;
+  if (database->options.read_only) return PDT_READONLY;
+  pthread_mutex_lock(&database->files_lock); /* under which alone they change */
+  strcpy(before, table->declared[column]);
+  set_declared(table, column, format);
+  int code = rewrite_types(database, table->member);
+  if (code) set_declared(table, column, before);
+  pthread_mutex_unlock(&database->files_lock);
+  return code;
+}
+
+pdt_code pdt_declare(pdt_table *table, size_t column, const char *format) {
+  if (!table) return PDT_MISUSE;
+  if (format ? !pdti_may_declare(table, column, format) : column >= table->width) return PDT_TYPE_MISMATCH;
+  if (!format) format = "";
+  if (table->database) return declare_in(table->database, table, column, format);
+  set_declared(table, column, format);
+  return PDT_OK;
+}
+
+/* Declares the columns of a table that is in no database yet, and puts it there; else it is freed. */
+static int create_declared(pdt_database *database, const char *name, const char *const *formats, size_t count,
+                           const pdt_options *options, pdt_table *table, pdt_table **out) {
+  for (size_t column = 0; column < count; column++) {
+    if (!formats[column]) continue;
+    if (!pdti_may_declare(table, column, formats[column])) {
+      pdti_free_table(table);
+      return PDT_TYPE_MISMATCH;
+    }
+    strcpy(table->declared[column], formats[column]);
+  }
+  return pdti_create_table(database, name, options, table, out);
+}
+
+pdt_code pdt_table_create_declared(pdt_database *database, const char *name, const pdt_column *columns, size_t count, size_t key,
+                                   const char *const *formats, const pdt_options *options, pdt_place *place, pdt_table **out) {
+  pdt_table *table = NULL;
+  int code = pdti_may_create(database, name, out);
+  if (!code && !formats && count) code = PDT_MISUSE;
+  if (!code) code = pdti_open_inside(columns, count, key, options, place, &table);
+  return code ? code : create_declared(database, name, formats, count, options, table, out);
+}
+
+pdt_code pdt_table_create_csv_declared(pdt_database *database, const char *name, const void *csv, size_t bytes, const char *const *formats,
+                                       size_t count, const pdt_options *options, pdt_fault *fault, pdt_table **out) {
+  pdt_table *table = NULL;
+  int code = pdti_may_create(database, name, out);
+  if (!code && !formats && count) code = PDT_MISUSE;
+  if (!code) code = pdt_open_csv(csv, bytes, options, fault, &table);
+  return code ? code : create_declared(database, name, formats, count, options, table, out);
+}

@@ -1,0 +1,424 @@
+/* Opening a database: what its folder has, and where its journal goes on. Nothing is changed before all of it is found. */
+#include "database.h"
+
+#include <fcntl.h>
+#include <stdio.h>
+#include <sys/file.h>
+#include <sys/random.h>
+#include <sys/stat.h>
+
+/* Names the file that a code is about. */
+static int about(pdt_report *report, const char *file, int code) {
+  if (code) snprintf(report->file, sizeof report->file, "%s", file);
+  return code;
+}
+
+/* ---- the folder */
+
+int pdti_make_folder(const char *folder, mode_t mode, bool *is_new) {
+  *is_new = !mkdir(folder, pdti_folder_mode(mode));
+  return *is_new || errno == EEXIST ? PDT_OK : PDT_IO;
+}
+
+/* Makes the name of the folder durable, whoever made it. */
+static int keep_folder(const pdt_database *database) {
+  int dir = pdti_open_in(database->dir, "..", O_RDONLY | O_DIRECTORY);
+  int code = dir < 0 || pdti_sync_in(dir) ? PDT_IO : PDT_OK;
+  if (code && (errno == EACCES || errno == EPERM)) code = PDT_OK; /* it is another's, who keeps it */
+  int why = errno;
+  if (dir >= 0) close(dir);
+  errno = why;
+  return code;
+}
+
+/* A call that a signal has cut off is made again. */
+static int lock(int file, int how) {
+  int bad;
+  do bad = flock(file, how | LOCK_NB);
+  while (bad && errno == EINTR);
+  return !bad ? PDT_OK : errno == EWOULDBLOCK ? PDT_LOCKED : PDT_IO;
+}
+
+/* Opens the file `lock`, or makes it where the database isn't only read. */
+static int open_lock(pdt_database *database) {
+  bool reads = database->options.read_only;
+  database->lock_file = pdti_open_in(database->dir, "lock", reads ? O_RDONLY : O_RDWR);
+  if (database->lock_file >= 0 || errno != ENOENT) return database->lock_file < 0 ? PDT_IO : PDT_OK;
+  if (reads) return PDT_OK;
+  database->lock_file = pdti_make_in(database, database->dir, "lock", O_RDWR);
+  database->has_made_lock = database->lock_file >= 0;
+  return database->lock_file < 0 ? PDT_IO : PDT_OK;
+}
+
+/* A file of the folder can be taken away by hand, and another be made in its place; the folder itself can't while it has the database.
+   Some file systems lock no folder, or none that is open for reading alone: there it is the file's lock alone. Openings that only read
+   share both, and make no file: where there is none the folder's lock is enough. */
+int pdti_lock_folder(pdt_database *database) {
+  bool reads = database->options.read_only;
+  int how = reads ? LOCK_SH : LOCK_EX;
+  int code = open_lock(database);
+  if (!code && database->lock_file >= 0) code = lock(database->lock_file, how);
+  if (code) return code;
+  code = lock(database->dir, how);
+  database->locks_none = code == PDT_IO && (errno == EBADF || errno == EINVAL || errno == EOPNOTSUPP);
+  return database->locks_none ? PDT_OK : code;
+}
+
+bool pdti_has_lost_lock(const pdt_database *database) {
+  struct stat ours, there;
+  if (!database->locks_none || fstat(database->lock_file, &ours)) return false;
+  if (fstatat(database->dir, "lock", &there, AT_SYMLINK_NOFOLLOW)) return errno == ENOENT;
+  return ours.st_ino != there.st_ino || ours.st_dev != there.st_dev;
+}
+
+void pdti_remove_new(pdt_database *database, const char *folder) {
+  if (database->has_made_lock) pdti_remove_in(database->dir, "lock");
+  if (!folder) return;
+  if (database->dir >= 0) pdti_remove_in(database->dir, "manifest"), pdti_remove_in(database->dir, "journal-1");
+  rmdir(folder);
+}
+
+/* ---- what is new */
+
+/* What is in a folder without a manifest, that one would have named. */
+typedef struct {
+  int dir;
+  size_t count;
+} pdti_leftovers;
+
+static void count_image(void *context, const char *name, uint64_t member, uint64_t folder) {
+  (void)name, (void)member, (void)folder;
+  ((pdti_leftovers *)context)->count++;
+}
+
+static void count_journal(void *context, const char *name, uint64_t seq, uint64_t second) {
+  pdti_leftovers *found = context;
+  struct stat about;
+  (void)seq, (void)second;
+  if (fstatat(found->dir, name, &about, 0) || about.st_size) found->count++; /* an empty one was made, and nothing came of it */
+}
+
+/* Draws what its frames are told by from any other's. */
+static int draw(uint64_t *number) {
+  ssize_t got;
+  do got = getrandom(number, sizeof *number, 0);
+  while (got < 0 && errno == EINTR);
+  return got == sizeof *number ? PDT_OK : PDT_IO;
+}
+
+/* Makes an empty file of the journal, and its name durable. */
+static int make_journal(pdt_database *database, uint64_t seq) {
+  char name[FILE_NAME];
+  pdti_name_journal(name, seq);
+  int file = pdti_make_in(database, database->dir, name, O_WRONLY | O_TRUNC | O_APPEND);
+  if (file < 0) return PDT_IO;
+  close(file);
+  return pdti_sync_in(database->dir);
+}
+
+int pdti_begin_journal(pdt_database *database) {
+  uint8_t header[JOURNAL_HEADER];
+  do /* a salt of which there are no frames is drawn once in 2^32 times */
+    if (draw(&database->salt)) return PDT_IO;
+  while (!pdtr_journal_header(database->salt, database->name, 0, header, sizeof header));
+  database->files[0] = (pdti_journal_file){.seq = 1};
+  database->file_count = 1;
+  return keep_folder(database) ? PDT_IO : make_journal(database, 1);
+}
+
+/* Makes the manifest of a database in a folder that has none, after its journal. Where images, types or frames are there, it is lost. */
+static int make_new(pdt_database *database) {
+  pdti_leftovers found = {database->dir, 0};
+  struct stat about;
+  int code = pdti_names(database->dir, "image-", count_image, &found);
+  if (!code) code = pdti_names(database->dir, "types-", count_image, &found);
+  if (!code) code = pdti_names(database->dir, "journal-", count_journal, &found);
+  if (code) return code;
+  if (found.count) return PDT_INCOMPLETE;
+  database->next_table = database->next_folder = 1;
+  code = draw(&database->name) || pdti_begin_journal(database) ? PDT_IO : pdti_write_manifest(database, 0, NULL, NULL);
+  int why = errno;
+  if (code && fstatat(database->dir, "manifest", &about, 0)) pdti_remove_in(database->dir, "journal-1"); /* which has no byte */
+  errno = why;
+  return code;
+}
+
+/* ---- the journal */
+
+/* What was read of the journal: the frames of its files, one after the other. */
+typedef struct {
+  pdt_database *database;
+  pdti_buffer frames;
+  size_t starts[JOURNAL_FILES]; /* where those of each file begin */
+  size_t fronts[JOURNAL_FILES]; /* and how many bytes are before them in the file: its header, or none where it has no header */
+  uint64_t first;               /* the number of the first file that an image wants */
+  bool is_full;
+} pdti_journal_read;
+
+/* Enters a file of the journal in the order of their numbers. */
+static void list_file(void *context, const char *name, uint64_t seq, uint64_t second) {
+  pdti_journal_read *read = context;
+  pdt_database *database = read->database;
+  (void)name;
+  if (second || seq < read->first) return;
+  if (database->file_count == JOURNAL_FILES) {
+    read->is_full = true;
+    return;
+  }
+  size_t at = database->file_count++;
+  for (; at && database->files[at - 1].seq > seq; at--) database->files[at] = database->files[at - 1];
+  database->files[at] = (pdti_journal_file){.seq = seq};
+}
+
+/* Whether bytes begin with a header of a later version, by which nothing of them is damaged: each version has its check in the same
+   place. */
+bool pdti_is_newer_header(const pdti_buffer *bytes) {
+  enum { CHECKED = JOURNAL_HEADER - 4 };
+  pdti_journal_header header;
+  if (bytes->len < JOURNAL_HEADER || pdtr_journal_read(bytes->at, bytes->len, &header) != PDTI_UNKNOWN_VERSION) return false;
+  const uint8_t *last = bytes->at + CHECKED;
+  uint32_t check = (uint32_t)last[0] << 24 | (uint32_t)last[1] << 16 | (uint32_t)last[2] << 8 | last[3];
+  return check == pdtr_check((uint32_t)CHECK_SEED, bytes->at, CHECKED);
+}
+
+/* Reads a file after those before it. What has no header is the end of a journal, or damaged: what it says tells which. */
+static int read_file(pdti_journal_read *read, size_t at, char *name) {
+  pdti_journal_file *file = &read->database->files[at];
+  pdti_name_journal(name, file->seq);
+  if (file->seq != read->first + at) return PDT_INCOMPLETE;
+  pdti_buffer bytes = {NULL, 0, 0};
+  int code = pdti_read_in(read->database->dir, name, &bytes);
+  if (code == PDT_MISSING) code = PDT_INCOMPLETE;
+  if (!code) {
+    pdti_journal_header header = {0, 0, 0};
+    bool is_headed = !pdtr_journal_read(bytes_at(bytes.at, bytes.len), bytes.len, &header);
+    size_t front = is_headed ? JOURNAL_HEADER : 0;
+    if (!is_headed && pdti_is_newer_header(&bytes)) code = PDT_NEWER_FORMAT;
+    if (is_headed && (header.salt != read->database->salt || header.store != read->database->name)) code = PDT_MISMATCH;
+    if (!code) code = pdti_reserve(&read->frames, bytes.len + 1);
+    if (!code) {
+      *file = (pdti_journal_file){file->seq, header.base, bytes.len};
+      read->starts[at] = read->frames.len;
+      read->fronts[at] = front;
+      if (bytes.len > front) memcpy(read->frames.at + read->frames.len, bytes.at + front, bytes.len - front);
+      read->frames.len += bytes.len - front;
+    }
+  }
+  free(bytes.at);
+  return code;
+}
+
+/* Reads the files of the journal from the first that an image wants. */
+static int read_journal(pdti_journal_read *read, pdt_report *report) {
+  pdt_database *database = read->database;
+  database->file_count = 0;
+  int listed = pdti_names(database->dir, "journal-", list_file, read);
+  if (listed) return listed;
+  if (read->is_full || !database->file_count) return about(report, "journal", PDT_INCOMPLETE);
+  for (size_t i = 0; i < database->file_count; i++) {
+    char name[FILE_NAME];
+    int code = read_file(read, i, name);
+    if (code) return about(report, name, code);
+  }
+  return PDT_OK;
+}
+
+/* ---- the tables */
+
+/* All tables come to one commit, since they are made of the same frames. */
+static int test_equal(const pdti_reopened *found, uint64_t newest, pdt_report *report) {
+  if (found->newest == newest) return PDT_OK;
+  *report->file = 0;
+  return PDT_MISMATCH;
+}
+
+/* Opens the tables over their images, with the commits since. */
+static int open_tables(pdti_journal_read *read, uint64_t number, pdti_reopened *found, pdt_report *report) {
+  pdt_database *database = read->database;
+  uint64_t base = read->fronts[0] ? database->files[0].base : number;
+  uint64_t oldest = UINT64_MAX, newest = 0;
+  for (size_t i = 0; i < database->count; i++) {
+    pdti_member *entry = database->members[i];
+    int code = pdti_open_image(database, entry, base, &read->frames, found, report->file);
+    if (!code) code = pdti_read_types(database, entry, report->file);
+    if (!i) newest = found->newest;
+    if (!code) code = test_equal(found, newest, report);
+    if (code) {
+      report->fault = found->fault;
+      return code;
+    }
+    report->file[0] = 0;
+    if (entry->image.number < oldest) oldest = entry->image.number;
+  }
+  if (database->count) report->replayed += found->newest - oldest;
+  return PDT_OK;
+}
+
+/* ---- where the journal goes on */
+
+/* The last file that has bytes behind its header. */
+static size_t last_with_frames(const pdti_journal_read *read) {
+  const pdt_database *database = read->database;
+  size_t at = database->file_count - 1;
+  while (at && database->files[at].bytes <= read->fronts[at]) at--;
+  return at;
+}
+
+/* Whether the files are behind one another: none was begun before all in those before it was durable. */
+static bool is_chain(const pdti_journal_read *read, const pdti_reopened *found, size_t last) {
+  const pdt_database *database = read->database;
+  for (size_t i = 0; i < database->file_count; i++)
+    if (read->fronts[i] && found->newest < database->files[i].base) return false;
+  return found->whole >= read->starts[last];
+}
+
+/* Puts the header and the frames of a file into another one, which the device takes. */
+static int copy_frames(const pdti_journal_read *read, size_t at, size_t frames, const char *name) {
+  pdt_database *database = read->database;
+  uint8_t header[JOURNAL_HEADER];
+  size_t front = read->fronts[at];
+  if (front && !pdtr_journal_header(database->salt, database->name, database->files[at].base, header, sizeof header)) return PDT_CORRUPT;
+  int file = pdti_make_in(database, database->dir, name, O_WRONLY | O_TRUNC);
+  if (file < 0) return PDT_IO;
+  int code = pdti_write_to(file, header, front);
+  return pdti_close_synced(file, code ? code : pdti_write_to(file, read->frames.at + read->starts[at], frames));
+}
+
+/* Writes a file anew with so many bytes of frames. Where a sync has failed before, the system may hold bytes that the device hasn't, and
+   takes them for written: only what is written again is sure to be there. */
+static int write_anew(const pdti_journal_read *read, size_t at, size_t frames) {
+  pdt_database *database = read->database;
+  pdti_journal_file *file = &database->files[at];
+  if (!file->bytes) return PDT_OK;
+  char name[FILE_NAME];
+  pdti_name_journal(name, file->seq);
+  int code = copy_frames(read, at, frames, "journal-new");
+  if (!code && renameat(database->dir, "journal-new", database->dir, name)) code = PDT_IO;
+  if (code) pdti_remove_in(database->dir, "journal-new"); /* it may be what has filled the disk */
+  if (!code) code = pdti_sync_in(database->dir);
+  if (!code) file->bytes = read->fronts[at] + frames;
+  return code;
+}
+
+/* Whether the commits that the manifest knows to be durable are there: else one is damaged, or missing where no bytes are left of it. */
+static int test_newest(const pdti_journal_read *read, uint64_t number, const pdti_reopened *found, pdt_report *report) {
+  if (found->newest >= number) return PDT_OK;
+  report->fault = found->newest + 1;
+  return found->whole < read->frames.len ? PDT_CORRUPT : PDT_INCOMPLETE;
+}
+
+/* Keeps what is torn where it has whole frames, and says where. */
+static int keep_frames(const pdti_journal_read *read, const pdti_reopened *found, size_t torn, pdt_report *report) {
+  const pdt_database *database = read->database;
+  const uint8_t *at = read->frames.at + found->whole;
+  if (!torn || !pdti_has_frames(database->salt, found->newest, at, torn)) return PDT_OK;
+  return pdti_keep_torn(database, database->files[database->file_count - 1].seq, at, torn, report->file);
+}
+
+/* Leaves what is torn behind, so that frames go on there. */
+static int cut_torn(pdti_journal_read *read, const pdti_reopened *found, pdt_report *report) {
+  size_t last = last_with_frames(read);
+  if (!is_chain(read, found, last)) {
+    report->fault = found->newest + 1;
+    return PDT_CORRUPT;
+  }
+  size_t torn = read->frames.len - found->whole;
+  report->torn_bytes += torn;
+  bool is_durable = !torn && found->newest == read->database->noted; /* the device is known to have all of it */
+  if (is_durable || read->database->options.read_only) return PDT_OK;
+  int code = keep_frames(read, found, torn, report);
+  return code ? code : write_anew(read, last, found->whole - read->starts[last]);
+}
+
+/* Opens the last file of the journal, in which frames go on. */
+static int open_last(pdt_database *database) {
+  if (database->options.read_only) return PDT_OK;
+  char name[FILE_NAME];
+  pdti_journal_file *last = &database->files[database->file_count - 1];
+  pdti_name_journal(name, last->seq);
+  database->file = pdti_open_in(database->dir, name, O_WRONLY | O_APPEND);
+  database->next_seq = last->seq + 1;
+  return database->file < 0 ? PDT_IO : PDT_OK;
+}
+
+/* Begins a new file where no table wants one of those that are there, but for one with no bytes. */
+static int begin_anew(pdt_database *database, uint64_t number) {
+  if (database->options.read_only || (database->file_count == 1 && !database->files[0].bytes)) return PDT_OK;
+  uint64_t seq = database->files[database->file_count - 1].seq + 1;
+  if (make_journal(database, seq)) return PDT_IO;
+  database->files[0] = (pdti_journal_file){.seq = seq};
+  database->file_count = 1;
+  return pdti_write_manifest(database, number, NULL, NULL);
+}
+
+static void remove_old_journal(void *context, const char *name, uint64_t seq, uint64_t second) {
+  pdt_database *database = context;
+  if (!second && seq < database->files[0].seq) unlinkat(database->dir, name, 0);
+}
+
+/* ---- all of it */
+
+/* Reads the manifest. Where there is none the database is made: of the files of a run, or new. */
+static int find_manifest(pdt_database *database, uint64_t *number, pdti_journal_read *read, pdt_report *report) {
+  int code = pdti_read_manifest(database, number, &read->first);
+  if (code != PDT_MISSING || database->options.read_only) return about(report, "manifest", code);
+  if (pdti_has_run(database)) {
+    code = pdti_import(database, report);
+    return code ? code : about(report, "manifest", pdti_read_manifest(database, number, &read->first));
+  }
+  read->first = 1;
+  return about(report, "manifest", make_new(database));
+}
+
+/* The image of a table that no commit has changed since is that of the newest commit too. */
+static void renumber_unchanged(pdti_member *entry, uint64_t newest) {
+  pdti_handle *raw = &entry->table->raw;
+  if (!pdtr_write_entries(raw) && !pdtr_read_entries(raw)) entry->image.number = newest;
+}
+
+/* The tables go on after the newest commit, which is durable. */
+static int attach_tables(pdt_database *database, uint64_t newest) {
+  for (size_t i = 0; i < database->count; i++)
+    if (pdti_make_room_for_numbers(database->members[i]->table)) return PDT_NOMEM;
+  for (size_t i = 0; i < database->count; i++) {
+    pdti_attach(database, database->members[i], newest);
+    renumber_unchanged(database->members[i], newest);
+  }
+  return PDT_OK;
+}
+
+/* Finds the tables and where the journal goes on, and changes nothing before all of it is found. */
+static int recover(pdt_database *database, pdti_journal_read *read, pdt_report *report) {
+  uint64_t number = 0;
+  int code = find_manifest(database, &number, read, report);
+  if (code) return code;
+  /* what a process left that was killed may have names that aren't durable: nothing is relied on, or taken away, before they are */
+  if (!database->options.read_only && pdti_sync_in(database->dir)) return PDT_IO;
+  code = read_journal(read, report);
+  pdti_reopened found = {0, number, 0};
+  if (!code) code = open_tables(read, number, &found, report);
+  if (!code) code = test_newest(read, number, &found, report);
+  if (!code) code = database->count ? cut_torn(read, &found, report) : begin_anew(database, number);
+  if (!code) code = open_last(database);
+  if (code) return code;
+  report->commits = found.newest;
+  database->newest = database->written = database->durable = found.newest;
+  database->published = found.newest;
+  return attach_tables(database, found.newest);
+}
+
+int pdti_open_folder(pdt_database *database, pdt_report *report) {
+  pdti_journal_read *read = calloc(1, sizeof *read);
+  if (!read) return PDT_NOMEM;
+  read->database = database;
+  int code = recover(database, read, report);
+  int why = errno;
+  free(read->frames.at);
+  free(read);
+  errno = why;
+  if (code || database->options.read_only) return code;
+  pdti_remove_images(database);
+  pdti_remove_run(database);
+  (void)pdti_names(database->dir, "journal-", remove_old_journal, database);
+  return PDT_OK;
+}
