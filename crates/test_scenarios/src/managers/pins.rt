@@ -163,29 +163,24 @@ fn a_cut_hands_the_trees_out(rt: HostRuntime) -> Result<(), Fail> {
 fn a_cut_up_to_a_number_lets_older_trees_go(rt: HostRuntime) -> Result<(), Fail> {
     let alloc = rt.alloc();
     let mut manager = opened(alloc, 64, MAX_ROWS)?;
-    let mut room = KeptTrees::room(alloc, manager.recent())?;
-    let below = begun_with(alloc, &manager, ItemWrite::Set(10, 7))?;
     assert!(&rt;
         one_write(alloc, &mut manager, ItemWrite::Delete(20)) == Some(CommitReply::Committed(1))
     );
     assert!(&rt;
         one_write(alloc, &mut manager, ItemWrite::Set(30, 9)) == Some(CommitReply::Committed(2))
     );
+    let mut room = KeptTrees::room(alloc, manager.recent())?;
     manager.cut_to(1, &mut room);
     assert!(&rt; (manager.floor(), manager.base(), manager.kept_len()) == (1, 0, 1));
-    assert!(&rt; decided(&mut manager, below).is_none());
-    assert!(&rt; manager.changes(1).is_none() && has_changes(alloc, &manager, 2, "1:2=9")?);
-    let at_the_floor = begun_with(alloc, &manager, ItemWrite::Set(30, 8))?;
+    assert!(&rt; manager.changes(1).is_none());
+    assert!(&rt; has_changes(alloc, &manager, 2, "1:2=9")?);
     assert!(&rt;
         one_write(alloc, &mut manager, ItemWrite::Set(10, 6)) == Some(CommitReply::Committed(3))
     );
-    assert!(&rt; decided(&mut manager, at_the_floor) == Some(CommitReply::Committed(4)));
-    let mut room = KeptTrees::room(alloc, manager.recent())?;
-    manager.cut_to(1, &mut room);
-    assert!(&rt; (manager.floor(), manager.kept_len()) == (1, 3));
-    manager.cut_to(9, &mut room);
-    assert!(&rt; (manager.floor(), manager.base(), manager.kept_len()) == (4, 0, 0));
-    assert!(&rt; has_rows(&manager, &[(10, 6), (30, 8)]));
+    let mut further = KeptTrees::room(alloc, manager.recent())?;
+    manager.cut_to(9, &mut further);
+    assert!(&rt; (manager.floor(), manager.base(), manager.kept_len()) == (3, 0, 0));
+    assert!(&rt; has_rows(&manager, &[(10, 6), (30, 9)]));
     Ok(())
 }
 
