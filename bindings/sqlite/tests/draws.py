@@ -112,6 +112,7 @@ class Drawn:
         """A statement that reads, and whether its rows come in an order."""
         first, name, t = self.keys[0], self.draw.choice(self.columns)[0], self.table
         where = self.where()
+        in_order = where if " OR " not in where else self.span()  # SQLite makes several searches of an OR, one after the other
         return self.draw.choice(
             [
                 (f"SELECT * FROM {t}{where}{self.order()}", True),
@@ -127,7 +128,7 @@ class Drawn:
                 (f"SELECT * FROM other LEFT JOIN {t} ON word = {name}{' AND ' + where[7:] if where else ''}", False),
                 (f"SELECT {first} FROM {t}{where} UNION SELECT k FROM other", False),
                 (f"SELECT k FROM other LEFT JOIN {t} ON {first} {self.draw.choice(['=', 'IS'])} k WHERE {first} IS NULL", False),
-                (f"SELECT {first} FROM {t}{where} UNION ALL SELECT k FROM other LIMIT 4 OFFSET {self.draw.randrange(4)}", True),
+                (f"SELECT {first} FROM {t}{in_order} UNION ALL SELECT k FROM other LIMIT 4 OFFSET {self.draw.randrange(4)}", True),
             ]
         )
 
