@@ -4,16 +4,10 @@
 
 /* ---- databases */
 
-static uint64_t newest_of(const Work *k) {
-  uint64_t n = 0;
-  for (auto &p : k->saw)
-    n = std::max(n, p.second->number);
-  return n;
-}
 static void dbtxn_begin() {
   if (w->dbtxns.size() > 2)
     return;
-  Work *k = new Work{nullptr, {}, {}};
+  Work *k = new Work{nullptr, {}, {}, w->number}; /* also where the table that it changed was dropped */
   answers("begin a database transaction", PDT_OK, D(pdt_dbtxn_begin, w->d, &k->h));
   for (Store *s : w->tables)
     k->saw.push_back({s, s->newest});
@@ -72,7 +66,7 @@ static void dbtxn_commit(Work *k) {
   else if (code == PDT_OK || std::find(codes.begin(), codes.end(), code) == codes.end())
     fail("a database transaction's commit", "a code that is due", std::to_string(code));
   if (changed.empty()) {
-    is("an idle work's number", (long long)newest_of(k), (long long)number);
+    is("an idle work's number", (long long)k->number, (long long)number);
   } else if (good) {
     w->number++;
     for (Txn *t : changed) {

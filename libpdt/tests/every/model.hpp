@@ -217,6 +217,7 @@ struct Work {
   pdt_dbtxn *h;
   vector<std::pair<Store *, V>> saw;
   std::map<Store *, Txn *> txns;
+  uint64_t number; /* of the newest commit when it began */
 };
 struct World {
   bool db = false;
