@@ -117,14 +117,14 @@ class Recovered(Case):
             self.assertEqual(self.answer("--table", "items"), (0, text_of("items", db["items"]), ""))
 
     def test_which_table_is_meant(self) -> None:
-        self.assertEqual(self.answer(), (1, "", "pdt: table: NotNamed\n"))
-        self.assertEqual(self.answer("--table", "item"), (1, "", "pdt: table: NoTable\n"))
-        self.assertEqual(self.answer("--table", ""), (1, "", "pdt: table: NoTable\n"))
+        self.assertEqual(self.answer(), (1, "", "pdt: store: NotNamed\n"))
+        self.assertEqual(self.answer("--table", "item"), (1, "", "pdt: store: NoTable\n"))
+        self.assertEqual(self.answer("--table", ""), (1, "", "pdt: store: NoTable\n"))
         with self.connect() as db:
             db.drop("seldom")
         self.assertEqual(self.answer(), (0, TABLES["items"], ""))
         (self.folder / "manifest").unlink()
-        self.assertEqual(self.answer("--table", "items"), (1, "", "pdt: table: NoDatabase\n"))
+        self.assertEqual(self.answer("--table", "items"), (1, "", "pdt: store: NoDatabase\n"))
 
     def test_what_is_damaged_or_missing_is_told(self) -> None:
         self.written(SEED, 120)
@@ -139,16 +139,16 @@ class Recovered(Case):
             with self.subTest(file=file.name):
                 whole = file.read_bytes()
                 file.write_bytes(whole[:-1] + bytes([whole[-1] ^ 1]))
-                self.assertEqual(self.answer("--table", "items"), (1, "", f"pdt: table: {refusal}\n"))
+                self.assertEqual(self.answer("--table", "items"), (1, "", f"pdt: store: {refusal}\n"))
                 file.write_bytes(whole)
         for number in numbers[:-1]:
             with self.subTest(number=number):
                 file = self.folder / f"journal-{number}"
                 file.rename(self.place / "elsewhere")
-                self.assertEqual(self.answer("--table", "items"), (1, "", f"pdt: table: MissingJournal {number}\n"))
+                self.assertEqual(self.answer("--table", "items"), (1, "", f"pdt: store: MissingJournal {number}\n"))
                 (self.place / "elsewhere").rename(file)
         (image / "column-0.pdt").unlink()
-        self.assertEqual(self.answer("--table", "items"), (1, "", "pdt: table: Unreadable\n"))
+        self.assertEqual(self.answer("--table", "items"), (1, "", "pdt: store: Unreadable\n"))
 
 
 if __name__ == "__main__":
