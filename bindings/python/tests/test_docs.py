@@ -28,7 +28,7 @@ class Documents(unittest.TestCase):
         return result.attempted
 
     def test_the_documents(self) -> None:
-        for document in ("README.md", "docs/LANGUAGES.md", "docs/ARROW.md"):
+        for document in ("docs/LANGUAGES.md", "docs/ARROW.md"):
             blocks = BLOCK.findall((TOP / document).read_text())
             self.assertTrue(blocks, f"{document} has no example for Python")
             for place, block in enumerate(blocks):

@@ -1,4 +1,4 @@
-"""The lines of README's part 'From SQL', run from the top of the repository; what is after -- is what they show.
+"""The lines of SQL at the head of docs/SQLITE.md, run from the top of the repository; what is after -- is what they show.
 
     lines.py
 """
@@ -13,8 +13,8 @@ TOP = Path(__file__).resolve().parents[3]
 
 
 def lines():
-    """Each line of the part's block: its statement, and the rows that it shows if that is said."""
-    block = re.search(r"^## From SQL$.*?^```sql\n(.*?)^```$", (TOP / "README.md").read_text(), re.M | re.S)
+    """Each line of the page's block: its statement, and the rows that it shows if that is said."""
+    block = re.search(r"^```sql\n(.*?)^```$", (TOP / "docs/SQLITE.md").read_text(), re.M | re.S)
     for line in block[1].splitlines():
         sql, _, shown = line.partition("--")
         yield sql.strip(), shown.strip().split(", ") if shown else None
@@ -33,7 +33,7 @@ def main():
             compared += shown is not None
     connection.close()
     assert compared, "nothing is compared"
-    print(f"{compared} lines of README show what they say")
+    print(f"{compared} lines of docs/SQLITE.md show what they say")
 
 
 if __name__ == "__main__":
