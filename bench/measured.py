@@ -55,6 +55,12 @@ def read_document(text, name):
     return Table(name, [], "", "", heads[:words], heads[words:], [(it[:words], [figure(cell) for cell in it[words:]]) for it in records])
 
 
+def run_in(text):
+    """The day and the machine of the run, as a document shows them."""
+    shown = next(it[2] for it in PLACE.finditer(text) if it[1] == "run")
+    return " ".join(shown.split()).partition(": ")[2].rstrip(".")
+
+
 def figure(cell):
     """The figure of a document's cell, a time in nanoseconds."""
     digits, unit = SHOWN.match(cell).groups()

@@ -75,9 +75,9 @@ struct pdt_database {
   bool takes_none;   /* the device has failed */
   pdt_table *changed; /* the tables with commits that no batch has taken yet, where begins see them once they are durable */
 
-  /* of who has the turn */
+  /* of the thread that has the turn */
   pdti_buffer writing;
-  int file;                          /* the last one of the journal: changed under turn_lock too, by who has the sync */
+  int file;                          /* the last one of the journal: changed under turn_lock too, by the thread that syncs */
   pdti_journal_file files[JOURNAL_FILES]; /* changed under turn_lock too */
   size_t file_count;
 

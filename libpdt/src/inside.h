@@ -245,7 +245,7 @@ int pdti_try_enter(pdt_table *table);
 int pdti_sleep_in(pdt_table *table);
 /* Gives it back. */
 void pdti_leave(pdt_table *table);
-/* Whether a thread has it, and whether this one has. The first is soon of the past. */
+/* Whether a thread has it, and whether this one has. The first may be stale on return. */
 bool pdti_is_entered(const pdt_table *table);
 bool pdti_is_entered_here(const pdt_table *table);
 

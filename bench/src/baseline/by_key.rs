@@ -106,7 +106,7 @@ impl<const SAME: usize> KeyColumns for TextColumn<SAME> {
 pub enum Search {
     /// By comparing each row's key with the update's, as a merge of two streams does.
     EachRow,
-    /// By steps that double, and then by halving, as only a table in memory can be searched.
+    /// By galloping, then binary search, as only a table in memory can be searched.
     Halving,
 }
 

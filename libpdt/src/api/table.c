@@ -218,7 +218,7 @@ pdt_code pdt_size(pdt_table *table, pdt_sizes *sizes) {
   return PDT_OK;
 }
 
-/* ---- what keeps it fast and small */
+/* ---- folding, packing, trimming */
 
 /* A Read-PDT is packed where it has so many entries and, for each so many, one that came since it was packed last: then packing takes
    less time in all than the folds. */

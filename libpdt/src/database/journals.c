@@ -79,7 +79,7 @@ uint64_t pdti_newest(const pdt_database *database) { return database->newest; }
 
 uint64_t pdti_seen(const pdt_database *database) { return database->published; }
 
-/* ---- of who has the turn */
+/* ---- of the thread that has the turn */
 
 void pdti_enter_changed(pdt_database *database, pdt_table *table) {
   if (table->is_changed || !pdti_hides(database)) return;
