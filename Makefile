@@ -24,8 +24,15 @@ mutants:
 examples: run
 	examples/check
 
+# lays out all sources: those of the crates by the toolchain, the others by the formatters that CONTRIBUTING names
 fmt:
 	for crate in crates/*/; do (cd $$crate && rt fmt); done
+	tools/lint --fix
+
+# looks at the layout of C, Python and Rust, and has the linters read Rust and shell
+.PHONY: lint
+lint:
+	tools/lint
 
 # proves one crate while you write: make check CRATE=delta
 check:
@@ -46,6 +53,12 @@ install: libpdt
 # takes it away, for the same PREFIX, LIBDIR, INCLUDEDIR and DESTDIR
 uninstall:
 	$(MAKE) -C libpdt uninstall && $(MAKE) -C bindings/sqlite uninstall
+
+# packs what `make test` has proved and built into dist/: the C library, the package for Python, the extension of SQLite, and their
+# checksums. make release DRAFT=--draft packs what `make libpdt` has built, whether or not the gate has passed
+.PHONY: release
+release:
+	tools/release $(DRAFT)
 
 # measures the library, also through its bindings, beside plain Rust, SQLite and numpy, into bench/out: make bench BENCH="--only scans".
 # It needs cargo and libsqlite3-dev, numpy and matplotlib of /usr/bin/python3; it names what isn't there, and leaves it out

@@ -21,12 +21,22 @@ class Unknown(Exception):
     """The kit's command lacks what is named."""
 
 
-def load():
-    """The kit's module rtlib, once it is seen to have all that is taken of it."""
+def commands():
+    """The folder of the kit's commands."""
     command = shutil.which("rt")
     if not command:
         raise Unknown("there is no command rt on the path")
-    file = os.path.join(os.path.dirname(os.path.realpath(command)), "rtlib.py")
+    return os.path.dirname(os.path.realpath(command))
+
+
+def folder():
+    """The kit's own folder."""
+    return os.path.dirname(commands())
+
+
+def load():
+    """The kit's module rtlib, once it is seen to have all that is taken of it."""
+    file = os.path.join(commands(), "rtlib.py")
     if not os.path.isfile(file):
         raise Unknown(f"the kit has no {file}")
     sys.dont_write_bytecode = True

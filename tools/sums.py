@@ -132,8 +132,11 @@ def read_verified(folder):
 
 
 def git(top, *words):
-    ran = subprocess.run(["git", "-C", top, *words], capture_output=True, text=True)
-    return ran.stdout.strip() if ran.returncode == 0 else None
+    """What git prints, or None where it fails: the folder is no repository, or there is no git."""
+    try:
+        return subprocess.run(["git", "-C", top, *words], check=True, capture_output=True, text=True).stdout.strip()
+    except (OSError, subprocess.CalledProcessError):
+        return None
 
 
 class Ages:

@@ -1,11 +1,16 @@
 """Builds the wheel and the source distribution of the package (PEP 517) with Python alone.
 
 The wheel has the library in it: that of the folder that PDT_LIB_DIR names; or else the one that `make libpdt` builds;
-or else, as for who builds it from a source distribution, the one of this version that pkg-config knows.
+or else, for a build from a source distribution, the one of this version that pkg-config knows.
+
+Two settings are for a release: `platform-tag` is the tag of the machines that the library runs on, and `third-party` a
+file with the licences of what is linked into it. The same files make the same bytes: SOURCE_DATE_EPOCH is the time of
+each entry, and 1980, the first one that a zip archive knows, where it isn't set.
 """
 from __future__ import annotations
 
 import base64
+import gzip
 import hashlib
 import io
 import os
@@ -14,6 +19,7 @@ import subprocess
 import sys
 import sysconfig
 import tarfile
+import time
 import zipfile
 from pathlib import Path
 from typing import Any, Dict, Iterator, List, Optional, Tuple
@@ -22,6 +28,9 @@ HERE = Path(__file__).resolve().parent
 PROJECT = dict(re.findall(r'^([a-z-]+) = "(.*)"$', (HERE / "pyproject.toml").read_text(), re.MULTILINE))
 NAME = PROJECT["name"]
 Files = List[Tuple[str, bytes]]
+Settings = Optional[Dict[str, Any]]
+#: The first second that a zip archive can have: 1980-01-01.
+FIRST_SECOND = 315_532_800
 
 
 def shared(name: str) -> bytes:
@@ -41,7 +50,6 @@ Name: {NAME}
 Version: {VERSION}
 Summary: {PROJECT["description"]}
 License-Expression: {PROJECT["license"]}
-License-File: LICENSE
 Requires-Python: {PROJECT["requires-python"]}
 """
 
@@ -92,19 +100,44 @@ def record_line(name: str, content: bytes) -> str:
     return f"{name},sha256={digest},{len(content)}\n"
 
 
-def build_wheel(
-    wheel_directory: str, config_settings: Optional[Dict[str, Any]] = None, metadata_directory: Optional[str] = None
-) -> str:
-    """Writes the wheel into a folder, and answers its name."""
-    tag = f"py3-none-{platform_tag()}"
+def entry_second() -> int:
+    """The time of each entry of an archive."""
+    return max(FIRST_SECOND, int(os.environ.get("SOURCE_DATE_EPOCH") or FIRST_SECOND))
+
+
+def metadata(licences: List[str]) -> str:
+    """The package's metadata, with the files of licences that are beside it."""
+    return METADATA + "".join(f"License-File: {name}\n" for name in licences)
+
+
+def licences(settings: Settings) -> Files:
+    """The texts of licences that a wheel has: the package's own, and those of the file that `third-party` names."""
+    named = (settings or {}).get("third-party")
+    own = [("LICENSE", shared("LICENSE"))]
+    return [*own, ("THIRD-PARTY", Path(named).read_bytes())] if named else own
+
+
+def write_zip(path: Path, files: Files) -> None:
+    """Writes an archive of these files, in this order."""
+    moment = time.gmtime(entry_second())[:6]
+    with zipfile.ZipFile(path, "w") as archive:
+        for name, content in files:
+            entry = zipfile.ZipInfo(name, moment)
+            entry.create_system, entry.external_attr = 3, 0o100644 << 16
+            archive.writestr(entry, content, zipfile.ZIP_DEFLATED)
+
+
+def build_wheel(wheel_directory: str, config_settings: Settings = None, metadata_directory: Optional[str] = None) -> str:
+    """Writes the wheel into a folder, and returns its name."""
+    tag = f"py3-none-{(config_settings or {}).get('platform-tag') or platform_tag()}"
     package = [*modules(), (f"{NAME}/VERSION", shared("VERSION")), (f"{NAME}/libpdt.so", library())]
-    told = [("METADATA", METADATA), ("WHEEL", wheel_text(tag)), ("licenses/LICENSE", shared("LICENSE").decode())]
-    files = [*package, *((f"{INFO}/{name}", text.encode()) for name, text in told)]
+    texts = licences(config_settings)
+    info = [("METADATA", metadata([name for name, _ in texts]).encode()), ("WHEEL", wheel_text(tag).encode())]
+    info += [(f"licenses/{name}", text) for name, text in texts]
+    files = [*package, *((f"{INFO}/{name}", text) for name, text in info)]
     record = "".join(record_line(name, content) for name, content in files) + f"{INFO}/RECORD,,\n"
     wheel = f"{NAME}-{VERSION}-{tag}.whl"
-    with zipfile.ZipFile(Path(wheel_directory, wheel), "w", zipfile.ZIP_DEFLATED) as archive:
-        for name, content in [*files, (f"{INFO}/RECORD", record.encode())]:
-            archive.writestr(name, content)
+    write_zip(Path(wheel_directory, wheel), [*files, (f"{INFO}/RECORD", record.encode())])
     return wheel
 
 
@@ -112,15 +145,20 @@ def sources() -> Files:
     """The files of a source distribution: the package and what builds it, without the library."""
     own = [(name, (HERE / name).read_bytes()) for name in ["pyproject.toml", "backend.py"]]
     packed = [(f"{NAME}/{name}", shared(name)) for name in ["VERSION", "LICENSE"]]
-    return [*own, ("PKG-INFO", METADATA.encode()), *packed, *modules()]
+    return [*own, ("PKG-INFO", metadata(["LICENSE"]).encode()), *packed, *modules()]
 
 
-def build_sdist(sdist_directory: str, config_settings: Optional[Dict[str, Any]] = None) -> str:
-    """Writes the source distribution into a folder, and answers its name."""
+def build_sdist(sdist_directory: str, config_settings: Settings = None) -> str:
+    """Writes the source distribution into a folder, and returns its name."""
     stem = f"{NAME}-{VERSION}"
-    with tarfile.open(Path(sdist_directory, f"{stem}.tar.gz"), "w:gz", format=tarfile.PAX_FORMAT) as archive:
+    packed = io.BytesIO()
+    with tarfile.open(fileobj=packed, mode="w", format=tarfile.PAX_FORMAT) as archive:
         for name, content in sources():
             entry = tarfile.TarInfo(f"{stem}/{name}")
-            entry.size, entry.mode = len(content), 0o644
+            entry.size, entry.mode, entry.mtime = len(content), 0o644, entry_second()
             archive.addfile(entry, io.BytesIO(content))
+    with open(Path(sdist_directory, f"{stem}.tar.gz"), "wb") as file:
+        # without the name and the time that its head may have
+        with gzip.GzipFile(filename="", mode="wb", fileobj=file, mtime=0) as archive:
+            archive.write(packed.getvalue())
     return f"{stem}.tar.gz"

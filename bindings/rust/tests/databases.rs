@@ -194,9 +194,12 @@ fn damage(folder: &Folder, file: &str, at: usize) {
     fs::write(folder.0.join(file), bytes).unwrap();
 }
 
+/// An error, the file or the commit that is reported with it, and the damage to a folder that causes it.
+type Damage = (Error, Option<&'static str>, Option<u64>, fn(&Folder));
+
 #[test]
 fn damage_is_told_with_its_file_or_its_commit() {
-    let cases: [(Error, Option<&str>, Option<u64>, fn(&Folder)); 6] = [
+    let cases: [Damage; 6] = [
         (Error::Corrupt, Some("image-1-1/column-1.pdt"), None, |folder| damage(folder, "image-1-1/column-1.pdt", 3)),
         (Error::Corrupt, Some("manifest"), None, |folder| damage(folder, "manifest", 30)),
         (Error::Corrupt, None, Some(1), |folder| damage(folder, "journal-1", 36 + 30)),

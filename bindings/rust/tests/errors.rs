@@ -155,7 +155,7 @@ fn a_cut_makes_open_transactions_too_old() {
     table.trim();
     old.set([20], 3, 5).unwrap();
     assert_eq!(Some(1), old.get([10]).unwrap().unwrap()[3].as_int());
-    assert_eq!(Error::TooOld, Error::from(old.commit().unwrap_err()));
+    assert_eq!(Error::TooOld, old.commit().unwrap_err());
 }
 
 #[test]

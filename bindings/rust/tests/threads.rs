@@ -68,7 +68,7 @@ fn a_transaction_ends_on_another_thread() {
     let table = Table::open("id:int:key\n", &Options::default()).unwrap();
     let (mut first, mut second) = (table.begin().unwrap(), table.begin().unwrap());
     thread::scope(|threads| {
-        threads.spawn(move || first.insert([1]).and_then(|()| Ok(first.commit()?)).unwrap());
+        threads.spawn(move || first.insert([1]).and_then(|()| first.commit()).unwrap());
         threads.spawn(move || second.insert([2]).unwrap()); // dropped there, and so aborted
     });
     assert_eq!(0, table.sizes().open_transactions);
