@@ -1,5 +1,5 @@
 # Each target is one line; the work is done by the toolchain's command rt, and by tools/.
-.PHONY: try run test mutants examples fmt check libpdt door install uninstall bench soak fuzz
+.PHONY: try run test mutants examples fmt check libpdt door docs install uninstall bench soak fuzz
 
 # compiles the program from source and runs it on its example, unproved: a look
 try:
@@ -44,6 +44,11 @@ libpdt:
 
 # what it was called before 0.3
 door: libpdt
+
+# builds the reference of C, Rust and Python, and the pages of docs as a site, into out/docs; it needs no library, and names a tool that
+# isn't there: doxygen, cargo, or Sphinx with myst-parser and numpydoc
+docs:
+	tools/docs
 
 # installs the header, both libraries, what pkg-config and CMake read, and the extension of SQLite where it is built:
 # make install PREFIX=/usr/local LIBDIR=/usr/local/lib INCLUDEDIR=/usr/local/include DESTDIR=

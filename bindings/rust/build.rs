@@ -1,14 +1,20 @@
-//! Finds the library, in the order that the crate's documentation has, and links it.
+//! Finds the library, in the order that the crate's documentation has, and links it. Where DOCS_RS is set, as docs.rs sets it, only the
+//! documentation is built, which needs no library.
 use std::env;
 use std::path::{Path, PathBuf};
 use std::process::Command;
 
 const NONE: &str = "libpdt isn't there: name its folder by PDT_LIB_DIR, install it where pkg-config finds pdt, or run \
-    `make libpdt` at the top of the repository";
+    `make libpdt` at the top of the repository. The documentation alone needs none: DOCS_RS=1 cargo doc";
 
 fn main() {
-    for name in ["PDT_LIB_DIR", "PKG_CONFIG", "PKG_CONFIG_PATH", "PKG_CONFIG_LIBDIR", "PKG_CONFIG_SYSROOT_DIR"] {
+    for name in
+        ["DOCS_RS", "PDT_LIB_DIR", "PKG_CONFIG", "PKG_CONFIG_PATH", "PKG_CONFIG_LIBDIR", "PKG_CONFIG_SYSROOT_DIR"]
+    {
         println!("cargo::rerun-if-env-changed={name}");
+    }
+    if env::var_os("DOCS_RS").is_some() {
+        return;
     }
     match library() {
         Ok(library) => library.link(),

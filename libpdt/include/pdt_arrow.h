@@ -1,20 +1,41 @@
-/* Columns of Narthexmace by Arrow: rows go out as Arrow's C streams, and come in from such streams or from columns in memory.
+/**
+ * @file pdt_arrow.h
+ * Arrow's C streams: rows go out as streams, and come in from streams or from columns in memory.
+ */
 
-   Out. pdt_arrow shows rows of a pin's table as an ArrowArrayStream, pdt_txn_arrow those of a transaction with its own writes. What a
-   batch has is its own: it is copied, and stays whatever becomes of the stream, the pin, the transaction and the table. A stream is used
-   by one thread at a time; any threads have streams of one pin at once. Its get_next answers ENOMEM where memory is refused, and may be
-   asked again; EINVAL where a number is none of the asked format: get_last_error says at which row and in which column.
-
-   In. pdt_open_arrow and pdt_table_create_arrow make a table of a stream, pdt_apply_arrow applies the rows of one to a transaction. The
-   stream is released when the call returns, whatever it answers, and so is all that it handed out. A stream is believed where the rules
-   of Arrow leave nothing to look at: how long the buffers are isn't told by them, but of u, U and vu where each text ends.
-
-   Types. An int column takes c C s S i I l L (a number above 2^63 - 1 is refused), td? tt? ts?: tD? (the number as it is), d:P,S of 128
-   bits (the number without its point, where 64 bits hold it), and f g: a double n, seen as a number of 64 bits, is kept as
-   n ^ (n >> 63 & INT64_MAX), whose order is that of doubles, with -0 below 0 and a NaN outside of both infinities. A text column takes
-   u U vu, and dictionaries of these; a bool column b. A null is refused, but of a column that is declared with one.
-
-   The structs are those of Arrow's C data interface and C stream interface, under the guards that are published with them. */
+/**
+ * @defgroup arrow Arrow
+ *
+ * Rows as Arrow's C streams, out and in.
+ *
+ * **Out.** pdt_arrow() returns the rows of a pin's version as an `ArrowArrayStream`,
+ * pdt_txn_arrow() the rows of a transaction with its own writes. Cells are copied: a batch stays
+ * valid whatever becomes of the stream, the pin, the transaction and the table. One thread at a
+ * time uses a stream; several threads may read streams of one pin at once. `get_next` returns
+ * `ENOMEM` when out of memory, and may be called again; it returns `EINVAL` for a number that the
+ * requested format can't hold, and `get_last_error` has its row and its column.
+ *
+ * **In.** pdt_open_arrow() and pdt_table_create_arrow() make a table of a stream; pdt_apply_arrow()
+ * applies the rows of a stream to a transaction. The calling thread reads the stream, without a
+ * lock. The stream is released when the call returns, whatever its code, and so is everything that
+ * it returned. Counts, offsets, pointers and the shape of each struct are checked before they are
+ * used. The lengths of buffers aren't part of Arrow's structs, so that they can't be checked,
+ * except for `u`, `U` and `vu`, whose offsets say where each text ends.
+ *
+ * **Types.** An int column takes:
+ *
+ * - `c C s S i I l L`; a number above 2^63 - 1 is refused,
+ * - `td? tt? ts?: tD?`: dates, times, timestamps and durations, the number as it is,
+ * - `d:P,S` of 128 bits: the number without its point, if 64 bits hold it,
+ * - `f g`: a double whose bits are the integer n is stored as `n ^ (n >> 63 & INT64_MAX)`. That
+ *   number sorts as the double does, with -0 below 0 and a NaN beyond both infinities.
+ *
+ * A text column takes `u U vu` and dictionaries of these, a bool column `b`. A null is refused,
+ * except in a column that is declared with one (pdt_declare()).
+ *
+ * The structs are those of Arrow's C data interface and C stream interface, under the guards that
+ * are published with them.
+ */
 #ifndef PDT_ARROW_H
 #define PDT_ARROW_H
 
@@ -24,9 +45,13 @@
 extern "C" {
 #endif
 
+/** @addtogroup arrow
+ * @{ */
+
 #ifndef ARROW_C_DATA_INTERFACE
 #define ARROW_C_DATA_INTERFACE
 
+/** @cond Arrow's own */
 #define ARROW_FLAG_DICTIONARY_ORDERED 1
 #define ARROW_FLAG_NULLABLE 2
 #define ARROW_FLAG_MAP_KEYS_SORTED 4
@@ -55,12 +80,14 @@ struct ArrowArray {
   void (*release)(struct ArrowArray *);
   void *private_data;
 };
+/** @endcond */
 
 #endif
 
 #ifndef ARROW_C_STREAM_INTERFACE
 #define ARROW_C_STREAM_INTERFACE
 
+/** @cond Arrow's own */
 struct ArrowArrayStream {
   int (*get_schema)(struct ArrowArrayStream *, struct ArrowSchema *out);
   int (*get_next)(struct ArrowArrayStream *, struct ArrowArray *out);
@@ -68,112 +95,331 @@ struct ArrowArrayStream {
   void (*release)(struct ArrowArrayStream *);
   void *private_data;
 };
+/** @endcond */
 
 #endif
 
 /* ---- what numbers stand for */
 
-/* Declares what the numbers of an int column stand for, by a format in which it goes out, as pdt_arrow_column has them: "g" are doubles,
-   "tdD" days, "tsu:UTC" microseconds, "d:15,2" decimals, "?l" numbers with nulls, which no column of the key is. Null takes that back.
-   Streams have the column so where no format is asked for, and pdt_apply_arrow refuses numbers that mean something else. The table isn't
-   changed by it: for all calls of pdt.h the column has the same numbers, in the same order.
-   Of a table of a database it is on the device when this returns, and is there when the folder is opened again. Other threads may use the
-   table meanwhile: what they begin before it goes out as before. PDT_TYPE_MISMATCH, PDT_IO, PDT_READONLY, PDT_MISUSE: it is as it was.
-   (Where the device fails, a later opening may find it.) */
+/**
+ * Declares what the numbers of an int column mean, by the format in which they go out.
+ *
+ * The formats are those of ::pdt_arrow_column: "g" for doubles, "tdD" for days, "tsu:UTC" for
+ * microseconds, "d:15,2" for decimals, "?l" for ints with nulls, which a key column can't have.
+ * Streams then use this format unless they are asked for another, and pdt_apply_arrow() refuses
+ * numbers that mean something else. The table itself isn't changed: every call of pdt.h returns the
+ * same numbers in the same order.
+ *
+ * In a database the declaration is durable when this returns. Other threads may use the table
+ * meanwhile; streams that they have begun before keep their format. If the device fails, a later
+ * opening may find the new declaration.
+ *
+ * @param table   a table
+ * @param column  the column, from 0
+ * @param format  the format, or null to remove the declaration
+ * @retval PDT_OK             declared
+ * @retval PDT_TYPE_MISMATCH  there is no such column, it isn't an int column, or the format isn't
+ *                            valid for it
+ * @retval PDT_IO             a file of the database can't be written or synced; `errno` has the
+ *                            cause
+ * @retval PDT_READONLY       the database is open read-only
+ * @retval PDT_MISUSE         `table` is null; in a database also: this thread holds a prepared
+ *                            commit, or this process is a child of fork()
+ */
 pdt_code pdt_declare(pdt_table *table, size_t column, const char *format);
 
-/* The format of a column that is declared, and else null. It stays until the column is declared again: it isn't read while another thread
-   does that. pdt_declared_copy may be called then: it copies the format into room bytes, with a zero at its end, or no byte but that where
-   there is none. 64 bytes are enough. PDT_TYPE_MISMATCH where there is no such column, PDT_TOO_SMALL, PDT_MISUSE. */
+/**
+ * The declared format of a column.
+ *
+ * No other thread may declare the column meanwhile; pdt_declared_copy() may be called then.
+ *
+ * @param table   a table
+ * @param column  the column, from 0
+ * @return the format, valid until the column is declared again; null if it isn't declared, or there
+ *         is no such column
+ */
 const char *pdt_declared(const pdt_table *table, size_t column);
+
+/**
+ * Copies the declared format of a column, also while another thread declares it.
+ *
+ * @param table        a table
+ * @param column       the column, from 0
+ * @param[out] format  the format and a zero byte; an empty text if the column isn't declared
+ * @param room         how many bytes fit at `format`: 64 are enough
+ * @retval PDT_OK             the format is copied
+ * @retval PDT_TYPE_MISMATCH  there is no such column
+ * @retval PDT_TOO_SMALL      the format doesn't fit
+ * @retval PDT_MISUSE         `table` is null, or `format` is null though `room` isn't 0
+ */
 pdt_code pdt_declared_copy(const pdt_table *table, size_t column, char *format, size_t room);
 
-/* Make a table of a database as pdt_table_create and pdt_table_create_csv do, whose columns are declared: formats[i] is what pdt_declare
-   would be given for column i, or null, and there are count of them. A crash leaves the table so, or none. Those of these calls;
-   PDT_TYPE_MISMATCH also where a format is none of its column's: *table is null then, and there is no such table. */
+/**
+ * Creates a table of a database over columns, as pdt_table_create() does, with declared columns.
+ *
+ * A crash leaves the table with its declarations, or no table.
+ *
+ * @param database    a database
+ * @param name        as of pdt_table_create()
+ * @param columns     as of pdt_table_create()
+ * @param count       how many columns, and how many formats, there are: 1 to 32
+ * @param key         how many of the first columns are the key: 1 to 4
+ * @param formats     for each column the format that pdt_declare() takes, or null
+ * @param options     limits, or null for the defaults
+ * @param[out] place  may be null: the place of a fault, whose row and column count from 0
+ * @param[out] table  the table; null after any other code than ::PDT_OK
+ * @retval PDT_TYPE_MISMATCH  a format isn't valid for its column; or as of pdt_table_create()
+ * @retval PDT_MISUSE         `formats` is null; or as of pdt_table_create()
+ * @return any other code of pdt_table_create(), for its causes
+ */
 pdt_code pdt_table_create_declared(pdt_database *database, const char *name, const pdt_column *columns, size_t count, size_t key,
                                    const char *const *formats, const pdt_options *options, pdt_place *place, pdt_table **table);
+
+/**
+ * Creates a table of a database over CSV text, as pdt_table_create_csv() does, with declared
+ * columns.
+ *
+ * A crash leaves the table with its declarations, or no table.
+ *
+ * @param database    a database
+ * @param name        as of pdt_table_create()
+ * @param csv         the text, in UTF-8; may be null if `bytes` is 0
+ * @param bytes       its length in bytes
+ * @param formats     for each of the first `count` columns the format that pdt_declare() takes, or
+ *                    null
+ * @param count       how many formats there are
+ * @param options     limits, or null for the defaults
+ * @param[out] fault  may be null; written at ::PDT_BAD_TABLE only
+ * @param[out] table  the table; null after any other code than ::PDT_OK
+ * @retval PDT_TYPE_MISMATCH  a format isn't valid for its column, or there is no such column; or as
+ *                            of pdt_table_create_csv()
+ * @retval PDT_MISUSE         `formats` is null though `count` isn't 0; or as of
+ *                            pdt_table_create_csv()
+ * @return any other code of pdt_table_create_csv(), for its causes
+ */
 pdt_code pdt_table_create_csv_declared(pdt_database *database, const char *name, const void *csv, size_t bytes, const char *const *formats,
                                        size_t count, const pdt_options *options, pdt_fault *fault, pdt_table **table);
 
 /* ---- out */
 
-/* A column of a stream, and the format in which its cells go out. Null stands for the one that it is declared as, or else for l of an int
-   column, U of a text column, b of a bool column. A text column also goes out as u. An int column also goes out as tdm ttu ttn tDs tDm
-   tDu tDn, or ts and one of smun, a colon and a zone; as i tdD tts ttm, where 32 bits hold each number; as d:P,S, where each number has
-   at most P digits, of which there are 1 to 38; and as g, for numbers that came in as doubles. With ? before any of these the least
-   number goes out as a null. A format has at most 63 bytes. */
+/**
+ * A column of a stream, and the format in which its cells go out.
+ *
+ * | Type | By default | On request |
+ * |---|---|---|
+ * | int | its declared format, or `l` | `tdm ttu ttn tDs tDm tDu tDn`; `ts` and one of `smun`, a colon and a zone |
+ * | int, if 32 bits hold each number | | `i tdD tts ttm` |
+ * | int, if each number has at most P digits, 1 to 38 | | `d:P,S` |
+ * | int that came in as doubles | `g` | `g` |
+ * | text | `U` | `u` |
+ * | bool | `b` | |
+ *
+ * With `?` before a format of an int column the least number goes out as a null. A format has at
+ * most 63 bytes.
+ */
 typedef struct pdt_arrow_column {
-  size_t column;
-  const char *format;
+  size_t column;      /**< the column, from 0 */
+  const char *format; /**< the format, or null for the default */
 } pdt_arrow_column;
 
-/* Shows the rows of a pin's table between two positions, the end at most, as a stream of batches of so many rows, or of 65,536 where
-   that is 0; of texts that go out as u a batch has at most 524,287. So many columns go out, up to 32, also one of them twice; all of
-   them where columns is null. The batches are read as they are asked for, over a transaction of the stream's own, which is open until
-   the stream is released: the pin may be let go before, and the table is closed after.
-   PDT_TYPE_MISMATCH (a column that isn't there, or a format that isn't one of its type's), PDT_NOMEM, PDT_MISUSE: stream->release is null
-   then. A range of keys is the positions between two pdt_ranks, which a transaction at the pin tells. */
+/**
+ * Returns the rows of a pin's version between two positions as a stream.
+ *
+ * The batches are read as they are asked for, by a transaction of the stream's own, which is open
+ * until the stream is released. The pin may be released before; the table is closed after.
+ *
+ * A range of keys is the range of positions between two pdt_rank()s of a transaction at the pin.
+ *
+ * @param pin          a pin
+ * @param columns      the columns, up to 32, in any order and also repeated; null for all
+ * @param count        how many columns there are
+ * @param from         the position of the first row
+ * @param to           the position after the last row; past the end it is the end
+ * @param batch        rows in a batch, 0 for 65,536; at most 524,287 if texts go out as `u`
+ * @param[out] stream  the stream; its `release` is null after any other code than ::PDT_OK
+ * @retval PDT_OK             the stream is open
+ * @retval PDT_TYPE_MISMATCH  there is no such column, a format isn't valid for its type, or more
+ *                            than 32 columns
+ * @retval PDT_NOMEM          out of memory
+ * @retval PDT_MISUSE         `pin` or `stream` is null
+ */
 pdt_code pdt_arrow(pdt_pinned *pin, const pdt_arrow_column *columns, size_t count, uint64_t from, uint64_t to, size_t batch,
                    struct ArrowArrayStream *stream);
 
-/* The same of the rows that a transaction sees. All batches are read by this call: the transaction may be written, committed and aborted
-   before the stream is read. PDT_TYPE_MISMATCH, PDT_NOMEM, PDT_MISUSE: stream->release is null then. Takes the memory of all these
-   cells. */
+/**
+ * Returns the rows that a transaction sees between two positions as a stream.
+ *
+ * All batches are read by this call, into memory: the transaction may be written, committed and
+ * aborted before the stream is read.
+ *
+ * @param txn          a transaction
+ * @param columns      the columns, up to 32, in any order and also repeated; null for all
+ * @param count        how many columns there are
+ * @param from         the position of the first row
+ * @param to           the position after the last row; past the end it is the end
+ * @param batch        rows in a batch, 0 for 65,536; at most 524,287 if texts go out as `u`
+ * @param[out] stream  the stream; its `release` is null after any other code than ::PDT_OK
+ * @retval PDT_OK             the stream is open
+ * @retval PDT_TYPE_MISMATCH  there is no such column, a format isn't valid for its type, or more
+ *                            than 32 columns
+ * @retval PDT_NOMEM          out of memory
+ * @retval PDT_MISUSE         `txn` or `stream` is null
+ */
 pdt_code pdt_txn_arrow(pdt_txn *txn, const pdt_arrow_column *columns, size_t count, uint64_t from, uint64_t to, size_t batch,
                        struct ArrowArrayStream *stream);
 
 /* ---- in */
 
-/* What is wrong with columns that come in: a sentence in English with the column's name, and where. The row counts from 0 over all
-   batches, and is the first one of its batch where that is meant as a whole; the column counts from 0 in the stream. */
+/** What is wrong with columns that come in, and where. */
 typedef struct pdt_arrow_fault {
-  size_t size;     /* sizeof(pdt_arrow_fault), set by the caller, as of pdt_counts */
-  pdt_place place; /* zeros where no place is meant */
-  char cause[256]; /* ends with a zero; empty after PDT_OK, PDT_NOMEM and PDT_MISUSE */
+  size_t size;     /**< `sizeof(pdt_arrow_fault)`, set by the caller, also of an earlier or a later header */
+  pdt_place place; /**< the row, from 0 over all batches: the first row of a batch for the batch as a whole; and the column
+                        in the stream, from 0. Zeros where there is no place */
+  char cause[256]; /**< a sentence in English with the column's name; empty after ::PDT_OK, ::PDT_NOMEM and ::PDT_MISUSE */
 } pdt_arrow_fault;
 
-/* Opens a table over the rows of a stream, in any order. The columns of these names are the key, in this order; the others come after
-   them, in the order of the stream. What comes in as doubles, dates, times, durations or decimals is declared so, and with ? where the
-   field says that it may have nulls, as it is of integers then. A null is the least number, and isn't taken beside that; a column that has
-   the number and no null is declared without ?. *fault, which may be null, says what is wrong and where:
-   PDT_TYPE_MISMATCH: a null of the key, of a text or a boolean, or of a column whose field says that it has none; a number that 64 bits
-   don't hold, a text that is no UTF-8 or has more than 4,096 bytes, offsets that descend, an index outside its dictionary; a format that no
-   column takes; or a batch that isn't one of its schema.
-   PDT_DUPLICATE: the key is that of an earlier row; of several such keys the least is told. PDT_BAD_TABLE: a name, or the key.
-   PDT_DEVICE_FAILED: the stream failed, and the cause has what it said; where it says ENOMEM that is PDT_NOMEM.
-   PDT_TOO_MANY_ROWS, PDT_BAD_LIMIT, PDT_NOMEM, PDT_MISUSE, also of a stream that is released: *table is null then. */
+/**
+ * Opens a table over the rows of a stream, in any order.
+ *
+ * The named columns are the key, in this order; the other columns follow in the order of the
+ * stream. Doubles, dates, times, durations and decimals are declared as what they are
+ * (pdt_declare()), with `?` if the field allows nulls; so are ints of such a field. A null is
+ * stored as the least number: a column can't have both. A column that has the least number and no
+ * null is declared without `?`.
+ *
+ * @param stream       a stream, which is released
+ * @param key          the names of the key columns
+ * @param keys         how many there are: 1 to 4
+ * @param options      limits, or null for the defaults
+ * @param[out] fault   may be null: what is wrong, and where; the caller sets pdt_arrow_fault::size
+ * @param[out] table   the table; null after any other code than ::PDT_OK
+ * @retval PDT_OK             the table is open
+ * @retval PDT_TYPE_MISMATCH  a null in a key, a text or a boolean, or in a column whose field
+ *                            allows none; a number that 64 bits don't hold; a text that isn't UTF-8
+ *                            or has more than 4,096 bytes; descending offsets; an index outside its
+ *                            dictionary; a format that no column takes; or a batch that doesn't fit
+ *                            its schema
+ * @retval PDT_DUPLICATE      a row has the key of an earlier row; of several such keys the least is
+ *                            reported
+ * @retval PDT_BAD_TABLE      a column's name isn't valid, or the key isn't
+ * @retval PDT_DEVICE_FAILED  the stream failed: pdt_arrow_fault::cause has its message
+ * @retval PDT_TOO_MANY_ROWS  more rows than pdt_options::row_limit
+ * @retval PDT_BAD_LIMIT      an option is outside its range
+ * @retval PDT_NOMEM          out of memory, here or in the stream (`ENOMEM`)
+ * @retval PDT_MISUSE         `table`, `stream`, `key` or a name is null, the stream is released
+ *                            already, or a size isn't set
+ */
 pdt_code pdt_open_arrow(struct ArrowArrayStream *stream, const char *const *key, size_t keys, const pdt_options *options,
                         pdt_arrow_fault *fault, pdt_table **table);
 
-/* Makes a table of a database so, as pdt_table_create does: its codes, and those of pdt_open_arrow. */
+/**
+ * Creates a table of a database over the rows of a stream.
+ *
+ * Reads the stream as pdt_open_arrow() does, and creates the table as pdt_table_create() does, with
+ * its declarations.
+ *
+ * @param database    a database
+ * @param name        as of pdt_table_create()
+ * @param stream      a stream, which is released
+ * @param key         the names of the key columns
+ * @param keys        how many there are: 1 to 4
+ * @param options     limits, or null for the defaults
+ * @param[out] fault  may be null: what is wrong, and where; the caller sets pdt_arrow_fault::size
+ * @param[out] table  the table; null after any other code than ::PDT_OK
+ * @return the codes of pdt_open_arrow() and pdt_table_create(), for their causes
+ */
 pdt_code pdt_table_create_arrow(pdt_database *database, const char *name, struct ArrowArrayStream *stream, const char *const *key,
                                 size_t keys, const pdt_options *options, pdt_arrow_fault *fault, pdt_table **table);
 
-/* What is done with each row. An insert is that of pdt_insert. An upsert inserts the row, or sets all cells of the row of its key but
-   those of the key. A delete is that of pdt_delete. */
-enum pdt_apply { PDT_APPLY_INSERT = 1, PDT_APPLY_UPSERT = 2, PDT_APPLY_DELETE = 3 };
+/** What to do with each row that comes in. */
+enum pdt_apply {
+  PDT_APPLY_INSERT = 1, /**< insert it, as pdt_insert() does */
+  PDT_APPLY_UPSERT = 2, /**< insert it, or set all cells but the key's of the row that has its key */
+  PDT_APPLY_DELETE = 3  /**< delete the row of its key, as pdt_delete() does */
+};
 
-/* Applies the rows of a stream to a transaction, one after the other: all of them, or none. The columns are found by their names, in any
-   order: those of the table, or those of the key for a delete, which passes over the others: up to 32 of them, each in a format that a
-   column takes. *done, if not null, says how many rows were
-   applied: 0 after any other code than PDT_OK.
-   PDT_DUPLICATE, PDT_MISSING, PDT_FULL at the row; PDT_TYPE_MISMATCH, also where the columns aren't those of the table; PDT_DEVICE_FAILED,
-   as of pdt_open_arrow; PDT_TOO_MANY_ROWS (of one batch), PDT_NOMEM, PDT_MISUSE. The transaction stays open, and is then as it was. */
+/**
+ * Applies the rows of a stream to a transaction, one after the other: all of them, or none.
+ *
+ * Columns are matched by name, in any order: all columns of the table, or for a delete those of the
+ * key, and others are ignored. A stream has up to 32 columns, each in a format that its column
+ * takes. After any other code than ::PDT_OK the transaction stays open, as it was.
+ *
+ * @param txn         a transaction
+ * @param stream      a stream, which is released
+ * @param what        a ::pdt_apply
+ * @param[out] fault  may be null: what is wrong, and where; the caller sets pdt_arrow_fault::size
+ * @param[out] done   may be null: how many rows were applied; 0 after any other code than ::PDT_OK
+ * @retval PDT_OK             all rows are applied
+ * @retval PDT_DUPLICATE      insert: a row with the key of the row at the place exists
+ * @retval PDT_MISSING        delete: no row has the key of the row at the place
+ * @retval PDT_FULL           the table would have more rows than pdt_options::row_limit
+ * @retval PDT_TYPE_MISMATCH  as of pdt_open_arrow(), or the columns aren't those of the table, or a
+ *                            column isn't what the table's is declared as
+ * @retval PDT_DEVICE_FAILED  the stream failed: pdt_arrow_fault::cause has its message
+ * @retval PDT_TOO_MANY_ROWS  a batch has more than 2,147,483,647 rows
+ * @retval PDT_NOMEM          out of memory, here or in the stream
+ * @retval PDT_MISUSE         `txn` or `stream` is null, the transaction is prepared, the stream is
+ *                            released already, `what` isn't a ::pdt_apply, or pdt_arrow_fault::size
+ *                            isn't set
+ */
 pdt_code pdt_apply_arrow(pdt_txn *txn, struct ArrowArrayStream *stream, int what, pdt_arrow_fault *fault, uint64_t *done);
 
-/* The same of columns in memory, which all have as many rows, in any order of the keys: their numbers are those that the table keeps. */
+/**
+ * Applies rows of columns in memory to a transaction, one after the other: all of them, or none.
+ *
+ * Like pdt_apply_arrow(). The keys may be in any order. Ints are the numbers that the table stores,
+ * whatever its columns are declared as.
+ *
+ * @param txn         a transaction
+ * @param columns     the columns; all have the same number of rows
+ * @param count       how many columns there are
+ * @param what        a ::pdt_apply
+ * @param[out] fault  may be null: what is wrong, and where; the caller sets pdt_arrow_fault::size
+ * @param[out] done   may be null: how many rows were applied; 0 after any other code than ::PDT_OK
+ * @retval PDT_OK             all rows are applied
+ * @retval PDT_DUPLICATE      insert: a row with the key of the row at the place exists
+ * @retval PDT_MISSING        delete: no row has the key of the row at the place
+ * @retval PDT_FULL           the table would have more rows than pdt_options::row_limit
+ * @retval PDT_TYPE_MISMATCH  a value isn't one of its type, or the columns aren't those of the
+ *                            table
+ * @retval PDT_NOMEM          out of memory
+ * @retval PDT_MISUSE         a pointer is null, there is no column, the columns have different
+ *                            numbers of rows, the transaction is prepared, `what` isn't a
+ *                            ::pdt_apply, or pdt_arrow_fault::size isn't set
+ */
 pdt_code pdt_apply_columns(pdt_txn *txn, const pdt_column *columns, size_t count, int what, pdt_arrow_fault *fault, uint64_t *done);
 
-/* ---- Python's capsules, of a binding that has no C of its own. A capsule may be freed while an exception is on its way, when no Python
-   may run: so its destructor is one of these */
+/* ---- Python's capsules */
 
-/* Tells CPython's PyCapsule_GetPointer and PyMem_RawFree, before the first capsule is made. */
+/**
+ * Sets the functions of CPython that the destructors of capsules call.
+ *
+ * For a binding without C of its own. A capsule may be freed while an exception is raised, when no
+ * Python code may run: its destructor is a function of C, one of the two below.
+ *
+ * @param pointer  `PyCapsule_GetPointer`
+ * @param release  `PyMem_RawFree`
+ */
 void pdt_capsules(void *(*pointer)(void *capsule, const char *name), void (*release)(void *room));
 
-/* The destructors of capsules named "arrow_array_stream" and "arrow_schema": they release what nobody has taken, and free its room. */
+/**
+ * The destructor of a capsule named "arrow_array_stream": releases a stream that no reader has
+ * taken, and frees its memory.
+ *
+ * @param capsule  a `PyCapsule`
+ */
 void pdt_end_stream_capsule(void *capsule);
+
+/**
+ * The destructor of a capsule named "arrow_schema": releases a schema that no reader has taken, and
+ * frees its memory.
+ *
+ * @param capsule  a `PyCapsule`
+ */
 void pdt_end_schema_capsule(void *capsule);
+
+/** @} */
 
 #ifdef __cplusplus
 }

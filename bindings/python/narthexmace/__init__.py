@@ -5,41 +5,41 @@
 >>> with table.begin() as txn:  # commits at the end of the block, and aborts at an exception
 ...     txn.set(10, "qty", 2)
 ...     txn.insert((30, "Cid", 0))
->>> with table.read() as snapshot:  # reads alone, and commits nothing
+>>> with table.read() as snapshot:  # reads only
 ...     print(snapshot.get(10), 30 in snapshot, len(snapshot), [sum(batch["qty"]) for batch in snapshot.scan(["qty"])])
 (10, 'Ann', 2) True 3 [4]
 >>> table.close()
 
-That table lies in memory. A database is a folder of tables that last, whatever ends the process or the machine:
+That table is in memory. A database is a folder of durable tables, which survive the process and the machine:
 
->>> db = narthexmace.connect("shop")  # made where there is none
+>>> db = narthexmace.connect("shop")  # created if it isn't there
 >>> items = db.create("items", "id:int:key,name:text,qty:int\\n")  # an empty table; later it is db["items"]
 >>> with items.begin() as txn:
-...     txn.insert((1, "ink", 7))  # it is on the disk once the block has ended
+...     txn.insert((1, "ink", 7))  # durable when the block ends
 >>> db.close()
 >>> with narthexmace.connect("shop") as db:
 ...     orders = db.create("orders", {"id": [1], "qty": [0]}, key="id")
 ...     with db.begin() as txn:  # over all tables: both writes are committed, or none
 ...         txn["items"].set(1, "qty", 5)
 ...         txn["orders"].set(1, "qty", 2)
-...     with db.read() as tables:  # all tables at one moment
+...     with db.read() as tables:  # all tables as of one moment
 ...         print(list(db), tables["items"][:], tables["orders"][:])
 ['items', 'orders'] [(1, 'ink', 5)] [(1, 2)]
 
-What lasts: in a database each acknowledged commit, as ``sync`` of ``connect`` says. Those of a table outside a database
-are in memory: ``Table.checkpoint`` writes the newest table into a folder, and ``recover`` opens it again; what was
-committed since the last checkpoint is lost with the process.
+Durability: in a database each acknowledged commit, as ``sync`` of ``connect`` says. A table outside a database is in
+memory: ``Table.checkpoint`` writes the newest version into a folder, and ``recover`` opens it again. Commits since the
+last checkpoint are lost with the process.
 
-Threads: a database, a table or a pin is for any threads at once, a transaction or a snapshot for one at a time, which
-is checked. ``Table.pin`` keeps a table, over which several threads read side by side, each in a snapshot of its own.
-Calls into the library give up the interpreter's lock.
+Threads: any threads may use a database, a table or a pin at once; one thread at a time uses a transaction or a
+snapshot, which is checked. Several threads read one version side by side by a ``Pin``, each in a snapshot of its own.
+Calls into the library release the interpreter's lock.
 
-Who follows a table has from ``Table.changes`` what each commit changed, and from ``Table.wait`` word of the next one.
+Change data capture: ``Table.changes`` returns what each commit changed, and ``Table.wait`` blocks until the next one.
 
-Memory: what a call hands out is Python's own, but for ``Snapshot.int_spans``, which gives views of the library's
-numbers (zero-copy), for reading, until the next write on the transaction or its end.
+Memory: what a call returns is Python's own, except for ``Snapshot.int_spans``, which returns views of the library's
+memory (zero-copy), read-only, until the next write on the transaction or its end.
 
-Errors: each is an ``Error``, with its ``code`` and a sentence, and one of Python's own where there is a class for it.
+Errors: each is an ``Error``, with its ``code`` and a sentence, and also one of Python's own exceptions where one fits.
 """
 from ._arrow import ArrowScan
 from ._batches import Batch, IntSpans, Texts

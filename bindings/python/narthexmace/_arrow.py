@@ -119,16 +119,15 @@ class Asked(NamedTuple):
 
 
 class ArrowScan(Single):
-    """Rows of a table for whatever reads Arrow, which asks for them by ``__arrow_c_stream__`` as often as it likes.
+    """Rows of a table for any library that reads Arrow. From ``arrow`` of a table, a pin or a snapshot.
 
-    ``pyarrow.table(scan)``, ``polars.DataFrame(scan)`` and ``duckdb.sql("SELECT .. FROM scan")`` take it as it is. Of
-    a table or a pin, ``Table.arrow`` and ``Pin.arrow``, each stream reads the same version, and several threads may
-    have streams at once; while a stream is open, so is a transaction of its own. Of a snapshot or a transaction,
-    ``Snapshot.arrow``, each stream has copied the rows as they are when it is asked for.
+    ``pyarrow.table(scan)``, ``polars.DataFrame(scan)`` and ``duckdb.sql("SELECT .. FROM scan")`` take it. Each stream
+    of ``Table.arrow`` and ``Pin.arrow`` reads the same version, batch by batch, by a transaction of its own, and
+    several threads may have streams at once. A stream of ``Snapshot.arrow`` copies the rows when it is asked for.
 
-    Ints are Arrow's int64, texts large_string, and bools bool. ``as_types`` names other formats, by column and as
-    Arrow's C data interface spells them: "tdD" is a date, "tsu:UTC" a timestamp in microseconds, "g" a double, "u" a
-    string. With "?" before it, the least int64 goes out as a null.
+    Ints go out as int64, texts as large_string, bools as bool. ``as_types`` selects other formats by column, as Arrow's
+    C data interface spells them: "tdD" is a date, "tsu:UTC" a timestamp in microseconds, "g" a double, "u" a string.
+    With "?" before it the least int64 goes out as a null.
     """
 
     __slots__ = ("_source", "_shown", "_asked", "_ranks", "_batch", "_kept")
@@ -156,9 +155,24 @@ class ArrowScan(Single):
         self.__arrow_c_schema__()  # which tells what is asked for and isn't there
 
     def __arrow_c_stream__(self, requested_schema: Any = None) -> Any:
-        """A capsule of a stream. Misuse, NoMemory.
+        """Return an Arrow stream capsule.
 
-        Of what is requested, only whether texts are strings of 32 or of 64 bits is looked at.
+        Parameters
+        ----------
+        requested_schema : capsule, optional
+            A schema, read only for whether texts have offsets of 32 or of 64 bits.
+
+        Returns
+        -------
+        capsule
+            A ``PyCapsule`` named "arrow_array_stream".
+
+        Raises
+        ------
+        NoMemory
+            Out of memory. Nothing changed.
+        Misuse
+            The table, pin or snapshot is closed or over.
         """
         shown = dict(self._shown)
         if requested_schema is not None:
@@ -170,7 +184,20 @@ class ArrowScan(Single):
         return capsule
 
     def __arrow_c_schema__(self) -> Any:
-        """A capsule of the schema of its streams. Misuse, NoMemory."""
+        """Return the schema of its streams as an Arrow schema capsule.
+
+        Returns
+        -------
+        capsule
+            A ``PyCapsule`` named "arrow_schema".
+
+        Raises
+        ------
+        NoMemory
+            Out of memory. Nothing changed.
+        Misuse
+            The table, pin or snapshot is closed or over.
+        """
         stream = StreamOf()
         capsule, at = _capsules().schema()
         self._fill(self._shown, (0, 0), ctypes.addressof(stream))

@@ -9,11 +9,16 @@ from ._declared import Declared
 
 
 class Texts(Sequence[str]):
-    """The texts of a column: their UTF-8 bytes, one after the other in ``data``, and in ``offsets`` where each begins.
+    """The texts of a column in a batch, decoded when they are asked for.
 
-    ``offsets`` are int64, one more than there are texts, so text i is ``data[offsets[i]:offsets[i + 1]]``. Both offer
-    the buffer protocol, and belong to this object. A text is decoded when it is asked for; ``numpy.asarray`` makes an
-    array of objects, with all of them decoded.
+    ``numpy.asarray`` makes an array of objects, with all texts decoded.
+
+    Attributes
+    ----------
+    data : memoryview
+        The UTF-8 bytes of the texts, one after the other.
+    offsets : memoryview
+        int64, one more than there are texts: text i is ``data[offsets[i]:offsets[i + 1]]``.
     """
 
     __slots__ = ("data", "offsets", "_bytes")
@@ -48,7 +53,13 @@ class Texts(Sequence[str]):
         return iter(self.tolist())
 
     def tolist(self) -> List[str]:
-        """The texts, decoded."""
+        """Decode all texts.
+
+        Returns
+        -------
+        list of str
+            The texts.
+        """
         offsets, data = self.offsets.tolist(), self._bytes
         if data.isascii():  # a byte is a character, so that they are decoded at once
             decoded = data.decode("ascii")
@@ -56,7 +67,27 @@ class Texts(Sequence[str]):
         return [data[begin:end].decode() for begin, end in zip(offsets, islice(offsets, 1, None))]
 
     def __array__(self, dtype: Any = None, copy: Optional[bool] = None) -> Any:
-        """An array of numpy's, of objects. ImportError without numpy, ValueError where no copy may be made."""
+        """Decode all texts into an array of numpy's.
+
+        Parameters
+        ----------
+        dtype : numpy.dtype, optional
+            The dtype of the array; object by default.
+        copy : bool, optional
+            False isn't possible.
+
+        Returns
+        -------
+        numpy.ndarray
+            The texts.
+
+        Raises
+        ------
+        ImportError
+            There is no numpy.
+        ValueError
+            ``copy`` is False: decoding copies.
+        """
         import numpy
 
         if copy is False:
@@ -68,11 +99,18 @@ class Texts(Sequence[str]):
 
 
 class Batch:
-    """Some rows of a scan, column by column: ``batch["qty"]`` are a column's cells, ``len(batch)`` counts the rows.
+    """Rows of a scan, column by column: ``batch["qty"]`` is a column's cells, ``len(batch)`` the number of rows.
 
-    A column of ints is a memoryview of int64, one of bools a memoryview of bytes that are 0 or 1, and one of texts is
-    ``Texts``. All of it is the batch's own memory: it stays as it is whatever becomes of the transaction, and
-    ``numpy.asarray`` and ``numpy.frombuffer`` make an array over it without a copy.
+    An int column is a memoryview of int64, a bool column a memoryview of bytes of 0 or 1, a text column a ``Texts``.
+    The memory is the batch's own: it stays valid whatever becomes of the transaction, and ``numpy.asarray`` and
+    ``numpy.frombuffer`` make arrays over it without a copy.
+
+    Attributes
+    ----------
+    start : int
+        The position of the first row.
+    columns : tuple of str
+        The names of the columns.
     """
 
     __slots__ = ("start", "columns", "_cells", "_rows", "_declared")
@@ -93,7 +131,13 @@ class Batch:
         return self._cells[column]
 
     def rows(self) -> List[Row]:
-        """The rows, each with the cells of the batch's columns; of declared ones what their ints stand for."""
+        """Return the rows, with the values that declared columns mean.
+
+        Returns
+        -------
+        list of tuple
+            The cells of each row in the order of the batch's columns.
+        """
         if not self._cells:
             return [()] * self._rows
         return list(zip(*(self._values_of(name) for name in self._cells)))
@@ -109,11 +153,11 @@ class Batch:
 
 
 class IntSpans(Sequence[memoryview]):
-    """The numbers of an int column where they lie: views of int64, one for each run of rows that are together.
+    """The int64 values of a column, as read-only views without a copy. From ``Snapshot.int_spans``.
 
-    No number is copied, but those of rows that were changed since the last checkpoint. Nobody may write through the
-    views: they lie in the table that all transactions read. They may be read until the next write on the transaction,
-    its commit or its end, which release them: then they raise ValueError. ``copy`` makes memory of one's own.
+    There is a view for each contiguous run of rows. Only values of rows that were changed since the last checkpoint are
+    copied. The views are valid until the next write on the transaction, its commit or its end, which release them: they
+    raise ValueError then.
     """
 
     __slots__ = ("_views",)
@@ -137,7 +181,13 @@ class IntSpans(Sequence[memoryview]):
         return iter(self._views)
 
     def copy(self) -> memoryview:
-        """The numbers in memory that is the caller's, one after the other."""
+        """Copy the values into memory of the caller's own.
+
+        Returns
+        -------
+        memoryview
+            All values, one after the other, as int64.
+        """
         return memoryview(b"".join(self._views)).cast("q")
 
     def __repr__(self) -> str:

@@ -30,7 +30,17 @@ DECLARED = "'tdD' of dates, 'tsu:' of timestamps, 'g' of floats, 'd:15,2' of Dec
 
 
 class Column(NamedTuple):
-    """A column: its name, its type ("int", "text" or "bool"), and whether it belongs to the key."""
+    """A column of a table.
+
+    Attributes
+    ----------
+    name : str
+        Its name.
+    type : {"int", "text", "bool"}
+        Its type.
+    key : bool
+        Whether it is a key column.
+    """
 
     name: str
     type: str

@@ -24,9 +24,14 @@ _SYNCS = {"full": 0, "normal": 1, "off": 2}
 class Report(NamedTuple):
     """What the opening of a database found.
 
-    ``commits`` is the number of the newest commit. ``replayed`` is how many commits were read from the journal, because
-    an image of a table doesn't have them. ``torn_bytes`` is how many bytes at the journal's end were no whole commit,
-    which nobody was told of: they were cut off.
+    Attributes
+    ----------
+    commits : int
+        The number of the newest commit.
+    replayed : int
+        Commits that were replayed from the journal, since no checkpoint has them.
+    torn_bytes : int
+        Bytes at the journal's end that were no complete commit. None of them was acknowledged; they were cut off.
     """
 
     commits: int
@@ -35,13 +40,32 @@ class Report(NamedTuple):
 
 
 class DatabaseCounts(NamedTuple):
-    """What a database has counted since its opening, and what it keeps now.
+    """A database's counters since its opening, and what it has now.
 
-    ``commits`` is the number of the newest commit, and ``durable`` that of the newest one that is known to be on the
-    device. ``batches`` is how often the journal was written, of one commit or of several at once, and ``syncs`` how
-    often it was synced. ``folds`` and ``checkpoints`` of tables were made by maintenance, and ``faults`` is how often
-    something that was due has failed. The files of the journal are ``journal_files``, and have ``journal_bytes``.
-    ``kept_bytes`` is how much memory, about, the changes of the last commits take.
+    Attributes
+    ----------
+    commits : int
+        The number of the newest commit.
+    durable : int
+        The number of the newest commit that is known to be on the device.
+    batches : int
+        Writes to the journal, each of one commit or several.
+    syncs : int
+        Syncs of the journal.
+    folds : int
+        Folds by maintenance.
+    checkpoints : int
+        Checkpoints by maintenance.
+    faults : int
+        How often maintenance failed.
+    journal_bytes : int
+        Bytes of the journal's files now.
+    journal_files : int
+        Files of the journal now.
+    tables : int
+        Tables now.
+    kept_bytes : int
+        Bytes of memory that the retained changes of commits take, an estimate.
     """
 
     commits: int
@@ -70,32 +94,78 @@ def connect(
     mode: int = 0o666,
     read_only: bool = False,
 ) -> "Database":
-    """Opens the database in a folder, which is made where there is none: ``with narthexmace.connect("shop") as db:``.
+    """Open the database in a folder, which is created if it isn't there: ``with narthexmace.connect("shop") as db:``.
 
-    ``sync`` is what a commit survives once it is answered. "full": the end of the process and of the machine, since it
-    is on the device; commits of several threads share a sync. "normal": the end of the process; the device has it a
-    second later, or sooner. "off": neither, until the device has it, a second later or sooner, or at ``close``.
+    One process may have a database open, or several read-only. All tables, and the journal, are read into memory. A
+    background thread folds, writes checkpoints of the tables and deletes files that are no longer needed.
 
-    With ``early_reads`` what begins sees commits that aren't on the device yet, which a crash could take away.
+    Parameters
+    ----------
+    folder : str, bytes or os.PathLike
+        The folder. The folder above it exists.
+    sync : {"full", "normal", "off"}, optional
+        What an acknowledged commit survives. "full": a crash of the machine, since it is on the device; commits that
+        wait at the same time share a sync. "normal": a kill of the process; it is on the device a second later, or
+        sooner. "off": neither, until it is on the device, a second later or sooner, or at ``Database.close``.
+    early_reads : bool, optional
+        Whether a begin sees commits that aren't on the device yet, which a crash could still lose.
+    maintenance : bool, optional
+        False: there is no background thread. ``Database.maintain`` does its work, and makes durable what a ``sync``
+        other than "full" has left for later.
+    fold_entries : int, optional
+        How many entries the newest changes of a table have when they are folded.
+    checkpoint_entries : int, optional
+        How many entries all changes of a table since its last checkpoint have when it gets another one, if they are a
+        fiftieth of its rows too.
+    journal_bytes : int, optional
+        Bytes of the journal above which each table with an old checkpoint gets another one.
+    kept_bytes : int, optional
+        Bytes of memory for the changes of the last commits over all tables, which late commits and ``Table.changes``
+        need; the oldest are freed first.
+    mode : int, optional
+        The mode of new files, less the umask. Folders get the right to search beside that to read.
+    read_only : bool, optional
+        Whether nothing in the folder is created or changed. It may then be on a read-only file system. Calls that would
+        write raise ``ReadOnlyDatabase``.
 
-    A background thread of C's folds, writes checkpoints of tables and deletes files that are no longer needed. Without
-    ``maintenance`` there is none: ``Database.maintain`` does it, and has the device take what a ``sync`` other than
-    "full" has left for later. A table's newest changes are folded once they have ``fold_entries``
-    entries. It gets a checkpoint once all its changes since the last one have ``checkpoint_entries``, and as many as a
-    fiftieth of its rows. Above ``journal_bytes`` of journal each table whose checkpoint is old gets one. The changes of
-    the last commits, which late commits and ``Table.changes`` need, are kept up to about ``kept_bytes`` of memory over
-    all tables; the oldest go first.
+    Returns
+    -------
+    Database
+        The database.
 
-    Files are made with ``mode``, less the umask, and folders with the right to search beside that to read.
+    Raises
+    ------
+    Locked
+        It is open already, in this process or another.
+    Missing
+        With ``read_only``: there is no database in the folder.
+    Corrupt
+        Durable data is corrupt: ``file`` or ``commit`` has the place.
+    Incomplete
+        A file or a commit is missing: ``file`` or ``commit`` has which.
+    Mismatch
+        The journal isn't the journal of these tables: ``file`` or ``commit`` has the place.
+    BadCheckpoint
+        The file of a table's column can't be read as one.
+    BadTable
+        The header of a table can't be read as one.
+    NoCheckpoint
+        The files of a table contain no complete checkpoint.
+    NewerFormat
+        A later version of the library wrote ``file``.
+    FileFailed
+        A file can't be created, written, synced or read: ``errno`` has the cause.
+    BadLimit
+        An option isn't valid.
+    NoMemory
+        Out of memory.
+    Misuse
+        The folder's name is empty or has a null character.
 
-    With ``read_only`` nothing in the folder is made or changed: it may be on a read-only file system, and several
-    processes may read it at once. What would write raises ReadOnlyDatabase. Missing: there is no database in it.
-
-    Locked: it is open already, here or in another process. Corrupt: what was durable is damaged. Incomplete: a file or
-    a commit is missing. Mismatch: the journal isn't of these tables. BadCheckpoint, BadTable, NoCheckpoint: a file
-    can't be read as what it is. NewerFormat: a later version of the library wrote it. Each says which file, or which
-    commit. FileFailed: a file can't be made or read, also where the folder above isn't there. BadLimit: an option isn't
-    one. NoMemory: all tables, and the journal, are read into memory. After each of them no file has changed.
+    Notes
+    -----
+    After an exception no file has changed, except that torn bytes at the journal's end may be cut off after
+    ``FileFailed`` and ``NoMemory``.
     """
     limits = {
         "fold_entries": fold_entries,
@@ -131,15 +201,15 @@ def _formats_of(formats: Formats) -> Any:
 
 
 class Database(Single):
-    """A folder of tables that last. What a commit answered is there when the folder is opened again.
+    """A folder of durable tables. Acknowledged commits are there when the folder is opened again. From ``connect``.
 
-    ``db["items"]`` is a table by its name, a ``Table``: one that ``open`` gives lies in memory, and one of a database
-    lasts. ``db.create`` makes one. ``with db.begin() as txn:`` is a transaction over all of them, and ``with db.read()
-    as tables:`` reads all of them at one moment. ``for name in db`` and ``len(db)`` go over the tables.
+    ``db["items"]`` is a ``Table`` by its name; ``db.create`` makes one. ``with db.begin() as txn:`` is a transaction
+    over all tables, and ``with db.read() as tables:`` reads all of them as of one moment. ``for name in db`` and
+    ``len(db)`` are about the tables.
 
-    Any threads may use it at once. One process has it open at a time, and a child of fork doesn't. With ``with`` it is
-    closed at the end of the block. One that is dropped is closed too, once its tables and transactions are, with a
-    ResourceWarning. Nothing in the folder is to be changed by hand; it may be copied while it is closed.
+    Any threads may use it at once. One process has it open, and a child of fork doesn't. With ``with`` it is closed at
+    the end of the block. One that is dropped is closed too, once its tables and transactions are, with a
+    ResourceWarning. Don't change anything in the folder by hand; it may be copied while it is closed.
     """
 
     __slots__ = ("_handle", "_report", "_tables", "__weakref__")
@@ -167,15 +237,66 @@ class Database(Single):
         row_limit: int = MAX_ROWS,
         conflicts: str = "column",
     ) -> Table:
-        """Makes a table of a name over what ``open`` takes: a CSV text, its path, columns, or a stream of Arrow's.
+        """Create a table over anything that ``open`` takes: a CSV text, its path, columns, or a stream of Arrow's.
 
-        A header alone makes an empty one: ``db.create("items", "id:int:key,name:text\\n")``. The table is on the device
-        when this returns, with its options, which it keeps, those of ``open``, and with the columns that ``types``
-        declares: a crash leaves all of that, or no table.
+        A header alone creates an empty table: ``db.create("items", "id:int:key,name:text\\n")``. The table is durable
+        when this returns, with its options and with the columns that ``types`` declares: a crash leaves all of that, or
+        no table.
 
-        Exists, where there is a table of the name; TypeMismatch, where the name hasn't 1 to 64 bytes of UTF-8 without
-        control characters; FileFailed, WritesFailed, NoMemory, Misuse, and those of ``open``. There is no such table
-        then.
+        Parameters
+        ----------
+        name : str
+            The table's name: 1 to 64 bytes of UTF-8 without control characters.
+        table : str, bytes, os.PathLike, mapping, DataFrame or object with ``__arrow_c_stream__``
+            The rows, as ``open`` takes them.
+        key : str or sequence of str, optional
+            The columns that are the key, as in ``open``.
+        types : mapping of str to str, optional
+            Types and formats of some columns, as in ``open``.
+        recent : int, optional
+            How many commits may come between a transaction's begin and its commit: 1 to 65,536.
+        row_limit : int, optional
+            How many rows the table may have: 1 to 2,147,483,647.
+        conflicts : {"column", "row"}, optional
+            Whether changes of two columns of one row conflict ("row") or not ("column").
+
+        Returns
+        -------
+        Table
+            The table.
+
+        Raises
+        ------
+        Exists
+            A table of this name exists.
+        TypeMismatch
+            The name isn't valid, or a value doesn't fit the type of its column.
+        BadTable
+            The text or the columns don't describe a table, as in ``open``.
+        Duplicate
+            Two rows of a stream have one key.
+        DeviceFailed
+            The stream failed, and the sentence has its message.
+        TooManyRows
+            More rows than ``row_limit``.
+        BadLimit
+            ``recent``, ``row_limit`` or ``conflicts`` isn't valid.
+        FileFailed
+            A file can't be written or synced: ``errno`` has the cause.
+        WritesFailed
+            An earlier write failed.
+        Incomplete
+            The next opening would miss a commit in what was to be written. Nothing was written.
+        ReadOnlyDatabase
+            The database was opened read-only.
+        NoMemory
+            Out of memory. Nothing changed.
+        Misuse
+            The database is closed.
+        OSError
+            The file of the text can't be read.
+        TypeError
+            ``table`` isn't one of these, or ``key`` or ``types`` are given beside a source that has its own.
         """
         options = options_of(recent, row_limit, conflicts)
         encoded = name_of(name)
@@ -205,7 +326,25 @@ class Database(Single):
         return Calls(text, columns, arrow)
 
     def __getitem__(self, name: str) -> Table:
-        """The table of a name, the same object each time. Missing, which is a KeyError, where there is none."""
+        """Return a table by its name, the same object each time.
+
+        Parameters
+        ----------
+        name : str
+            The table's name.
+
+        Returns
+        -------
+        Table
+            The table.
+
+        Raises
+        ------
+        Missing
+            No table has this name. It is a KeyError.
+        Misuse
+            The database is closed.
+        """
         handle = self._handle.table(name)
         table = self._tables.get(name)
         if table is None or not table._stands_for(handle):
@@ -213,22 +352,80 @@ class Database(Single):
         return table
 
     def __contains__(self, name: object) -> bool:
-        """Whether there is a table of a name."""
+        """Return whether a table has this name.
+
+        Parameters
+        ----------
+        name : str
+            The name.
+
+        Returns
+        -------
+        bool
+            Whether there is such a table.
+
+        Raises
+        ------
+        Misuse
+            The database is closed.
+        """
         return self._handle.has(name)
 
     def __iter__(self) -> Iterator[str]:
-        """The names of the tables, in the order in which they were made."""
+        """Iterate over the names of the tables, in the order of their creation.
+
+        Returns
+        -------
+        iterator of str
+            The names.
+
+        Raises
+        ------
+        Misuse
+            The database is closed.
+        """
         return iter(self._handle.names())
 
     def __len__(self) -> int:
-        """How many tables there are."""
+        """Return how many tables there are.
+
+        Returns
+        -------
+        int
+            The number of tables.
+
+        Raises
+        ------
+        Misuse
+            The database is closed.
+        """
         return int(self._handle.counts().tables)
 
     def drop(self, name: str) -> None:
-        """Drops the table of a name: it is gone when this returns, and a call on it raises Misuse.
+        """Drop a table. Calls on it then raise ``Misuse``.
 
-        Missing, where there is none. Misuse, while a transaction or a snapshot is open over it, a pin kept, or another
-        thread in a call of it. FileFailed, WritesFailed, NoMemory: it stays.
+        Parameters
+        ----------
+        name : str
+            The table's name.
+
+        Raises
+        ------
+        Missing
+            No table has this name.
+        Misuse
+            A transaction or a snapshot is open over the table, a pin is open, or another thread is in a call of it. Or
+            the database is closed.
+        FileFailed
+            A file can't be written or synced: ``errno`` has the cause. The table stays.
+        WritesFailed
+            An earlier write failed. The table stays.
+        Incomplete
+            The next opening would miss a commit in what was to be written. The table stays.
+        ReadOnlyDatabase
+            The database was opened read-only.
+        NoMemory
+            Out of memory. The table stays.
         """
         self._handle.drop(name)
         self._tables.pop(name, None)
@@ -236,35 +433,108 @@ class Database(Single):
     # ---- transactions over all tables
 
     def begin(self) -> DatabaseTransaction:
-        """Begins a transaction over all tables, which it sees at one moment. It waits for no commit. NoMemory."""
+        """Begin a transaction over all tables, as of one moment: ``with db.begin() as txn:``.
+
+        It waits for no commit.
+
+        Returns
+        -------
+        DatabaseTransaction
+            The transaction.
+
+        Raises
+        ------
+        NoMemory
+            Out of memory. Nothing changed.
+        Misuse
+            The database is closed.
+
+        Examples
+        --------
+        >>> import narthexmace
+        >>> with narthexmace.connect("shop") as db:
+        ...     _ = db.create("items", "id:int:key,qty:int\\n1,5\\n"), db.create("orders", "id:int:key,qty:int\\n")
+        ...     with db.begin() as txn:  # both writes, or none
+        ...         txn["items"].set(1, "qty", 3)
+        ...         txn["orders"].insert((1, 2))
+        ...     print(db["items"].sizes().commits, db["orders"].sizes().commits)
+        1 1
+        """
         return DatabaseTransaction(DatabaseTransactionHandle(self._handle))
 
     def read(self) -> DatabaseSnapshot:
-        """All tables as they are at this moment, for reading. It commits nothing, and waits for no commit. NoMemory."""
+        """Take a snapshot of all tables, as of one moment: ``with db.read() as tables:``.
+
+        It waits for no commit, and commits nothing.
+
+        Returns
+        -------
+        DatabaseSnapshot
+            The snapshot.
+
+        Raises
+        ------
+        NoMemory
+            Out of memory. Nothing changed.
+        Misuse
+            The database is closed.
+        """
         return DatabaseSnapshot(DatabaseTransactionHandle(self._handle, reads=True))
 
     # ---- as a whole
 
     def maintain(self) -> None:
-        """Does what is due of folds, images and files. What was committed before is on the device then.
+        """Do the maintenance that is due: folds, checkpoints and the deletion of files that are no longer needed.
 
-        FileFailed, WritesFailed, NoMemory: it is due again.
+        Commits before the call are durable when it returns.
+
+        Raises
+        ------
+        FileFailed
+            A file can't be written or synced: ``errno`` has the cause. It is due again.
+        WritesFailed
+            An earlier write failed, or the commits can't be made durable.
+        Incomplete
+            The next opening would miss a commit in what was to be written. Nothing was written.
+        ReadOnlyDatabase
+            The database was opened read-only.
+        NoMemory
+            Out of memory. It is due again.
+        Misuse
+            The database is closed.
         """
         with self._handle as at:
             check_files(library.pdt_maintain(at), self._handle.folder)
 
     def counts(self) -> DatabaseCounts:
-        """What it has counted since its opening, and what it keeps now."""
+        """Read the database's counters.
+
+        Returns
+        -------
+        DatabaseCounts
+            The counters.
+
+        Raises
+        ------
+        Misuse
+            The database is closed.
+        """
         counts = self._handle.counts()
         return DatabaseCounts(*(getattr(counts, name) for name in DatabaseCounts._fields))
 
     def close(self) -> None:
-        """Closes it and its tables. What was committed is on the device then. Closing again is no error.
+        """Close the database and its tables. All commits are then durable. Closing again does nothing.
 
-        Snapshots, pins and scans of Arrow's end with it, as those of ``Table.close`` do. Misuse while a transaction or
-        a stream of Arrow's is open, an array is over memory that ``int_spans`` borrowed, or another thread is in a
-        call: it stays open then.
-        OutcomeUnknown, where the device fails: it is closed, and the last commits are there or not.
+        Snapshots, pins and Arrow scans end with it, as those of ``Table.close`` do.
+
+        Raises
+        ------
+        Misuse
+            A transaction or an Arrow stream is open, an array is over memory that ``int_spans`` returned, or another
+            thread is in a call: the database stays open.
+        OutcomeUnknown
+            The device failed: the database is closed, and whether its last commits are durable is unknown until it is
+            opened again.
         """
         try:
             self._handle.close()

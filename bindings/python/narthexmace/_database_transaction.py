@@ -16,11 +16,11 @@ Self = TypeVar("Self", bound="DatabaseSnapshot")
 
 
 class DatabaseSnapshot(Single):
-    """All tables of a database as they were at one moment, ``Database.read``: what others commit later isn't seen.
+    """All tables of a database as of one moment, for reading. From ``Database.read``.
 
-    ``tables["items"]`` is the snapshot of a table. One thread at a time, for all tables together: a call while another
-    thread is in one raises Misuse, and so does a call once it is over. With ``with`` it is over at the end of the
-    block, and one that is dropped is over, too. It commits nothing, and takes no number of a commit.
+    ``tables["items"]`` is the snapshot of a table. One thread at a time uses it with all its tables: a call while
+    another thread is in one raises ``Misuse``, and so does a call once it is over. With ``with`` it ends with the
+    block, and one that is dropped ends too. It commits nothing, and takes no commit number.
     """
 
     __slots__ = ("_handle", "_parts", "__weakref__")
@@ -38,9 +38,26 @@ class DatabaseSnapshot(Single):
         return self._handle.is_open
 
     def __getitem__(self, name: str) -> Snapshot:
-        """The table of a name as it was then, the same object each time. It ends with the whole, and not alone.
+        """Return the snapshot of a table, the same object each time. It ends with the whole, and not alone.
 
-        Missing, which is a KeyError, where there is no such table, or it was made later. Misuse, NoMemory.
+        Parameters
+        ----------
+        name : str
+            The table's name.
+
+        Returns
+        -------
+        Snapshot
+            The snapshot.
+
+        Raises
+        ------
+        Missing
+            No table has this name, or it was created later. It is a KeyError.
+        NoMemory
+            Out of memory. Nothing changed.
+        Misuse
+            It is over, or another thread is in a call of it.
         """
         if not self.is_open:
             raise Misuse("the transaction is over")
@@ -51,7 +68,25 @@ class DatabaseSnapshot(Single):
         return part
 
     def __contains__(self, name: object) -> bool:
-        """Whether it sees a table of a name. Misuse once it is over."""
+        """Return whether it sees a table of this name.
+
+        Parameters
+        ----------
+        name : str
+            The name.
+
+        Returns
+        -------
+        bool
+            Whether there is such a table.
+
+        Raises
+        ------
+        NoMemory
+            Out of memory. Nothing changed.
+        Misuse
+            It is over, or another thread is in a call of it.
+        """
         try:
             self[name]  # type: ignore[index]
         except Missing:
@@ -59,11 +94,30 @@ class DatabaseSnapshot(Single):
         return True
 
     def __iter__(self) -> Iterator[str]:
-        """The names of the tables that it sees, in the order in which they were made."""
+        """Iterate over the names of the tables that it sees, in the order of their creation.
+
+        Returns
+        -------
+        iterator of str
+            The names.
+
+        Raises
+        ------
+        NoMemory
+            Out of memory. Nothing changed.
+        Misuse
+            It is over, or another thread is in a call of it.
+        """
         return (name for name in self._handle.database.names() if name in self)
 
     def abort(self) -> None:
-        """Ends it without a trace. Aborting again is no error."""
+        """End it without a commit. Aborting again does nothing.
+
+        Raises
+        ------
+        Misuse
+            Another thread is in a call of it.
+        """
         self._handle.abort()
 
     def __enter__(self: Self) -> Self:
@@ -80,11 +134,11 @@ class DatabaseSnapshot(Single):
 
 
 class DatabaseTransaction(DatabaseSnapshot):
-    """A transaction over all tables of a database. It sees them as they were at its begin, and its own writes.
+    """A transaction over all tables of a database, as of its begin, with its own writes. From ``Database.begin``.
 
     ``txn["items"]`` is the transaction on a table, with all its reads, writes and savepoints. What it writes into any
-    of them is committed at once, as one commit with one number, or not at all. With ``with`` it commits at the end of
-    the block, and is aborted at an exception. One that is dropped while it is open is aborted. One thread at a time.
+    of them is committed as one commit with one number, or not at all. With ``with`` it commits at the end of the block,
+    and aborts at an exception. One that is dropped while it is open is aborted. One thread at a time uses it.
     """
 
     __slots__ = ()
@@ -92,25 +146,67 @@ class DatabaseTransaction(DatabaseSnapshot):
     _kind = Transaction
 
     def __getitem__(self, name: str) -> Transaction:
-        """The transaction on the table of a name, the same object each time. It commits with the whole, and not alone.
+        """Return the transaction on a table, the same object each time. It commits with the whole, and not alone.
 
-        Missing, which is a KeyError, where there is no such table, or it was made after the begin. Misuse, NoMemory.
+        Parameters
+        ----------
+        name : str
+            The table's name.
+
+        Returns
+        -------
+        Transaction
+            The transaction.
+
+        Raises
+        ------
+        Missing
+            No table has this name, or it was created after the begin. It is a KeyError.
+        NoMemory
+            Out of memory. Nothing changed.
+        Misuse
+            It is over, or another thread is in a call of it.
         """
         part = super().__getitem__(name)
         assert isinstance(part, Transaction)
         return part
 
     def commit(self) -> int:
-        """Commits what was written into all tables, or nothing. Answers the number of the commit.
+        """Commit what was written into all tables, or nothing, and return the number of the commit.
 
-        One that changes nothing takes no number: it ends as by ``abort``, and answers the number of what it saw.
+        One that changes nothing takes no number: it ends as by ``abort``, and returns the number of what it saw. When
+        this returns, the commit is as durable as ``sync`` of ``connect`` says.
 
-        Once it answers, the commit survives what ``sync`` of ``connect`` says: with "full" the end of the process and
-        of the machine.
+        Returns
+        -------
+        int
+            The number of the commit.
 
-        Conflict, TooOld and Full, of any of the tables, end it, and nothing is committed: begin again, and do the work
-        again. OutcomeUnknown, where the device failed, ends it: it is there or not, as the next opening tells.
-        NoMemory, Borrowed, WritesFailed, where the device failed before, and TooLong leave it open as it was.
+        Raises
+        ------
+        Conflict
+            A concurrent commit modified the same data of a table. Nothing is committed, and the transaction is over:
+            begin again, and repeat the work.
+        TooOld
+            The changes of a commit since the begin aren't retained any more. Nothing is committed, and the transaction
+            is over.
+        Full
+            A table would have more rows than its ``row_limit``. Nothing is committed, and the transaction is over.
+        OutcomeUnknown
+            I/O error while the commit was written. The transaction is over; whether it is durable is unknown until the
+            database is reopened.
+        NoMemory
+            Out of memory. The transaction stays open.
+        Borrowed
+            An array or another view is over memory that ``int_spans`` returned. The transaction stays open.
+        WritesFailed
+            An earlier write failed. The transaction stays open.
+        TooLong
+            The changes take 4 GiB or more in the journal. The transaction stays open.
+        ReadOnlyDatabase
+            The database was opened read-only. The transaction stays open.
+        Misuse
+            It is over, or another thread is in a call of it.
         """
         number = c_uint64(NO_NUMBER)
         check_commit(self._handle.commit(number), number.value)

@@ -12,9 +12,19 @@ Path = Union[str, bytes, "os.PathLike[str]"]
 
 
 class Error(Exception):
-    """Something that the library refused. Each has the code of ``pdt.h``, and a sentence that says the cause.
+    """An error of the library, with the code of ``pdt.h`` and a sentence with the cause.
 
-    Where Python has a class for the cause, as KeyError for a row that isn't there, the exception is one of that, too.
+    Errors that one of Python's own exceptions describes are of that class too, as ``Missing`` is a KeyError.
+    docs/ERRORS.md has all of them, with what to do.
+
+    Attributes
+    ----------
+    code : int
+        The code of ``pdt.h``.
+    row : int or None
+        The row, from 0, at which columns were refused; None for other calls.
+    column : int or None
+        The column of that row, from 0, or the column of a CSV text.
     """
 
     code = -1
@@ -30,7 +40,7 @@ class Error(Exception):
 
 
 class NoMemory(Error, MemoryError):
-    """Memory was refused. The table and the transaction are as they were."""
+    """Out of memory. The table and the transaction are unchanged."""
 
     code = 1
 
@@ -43,39 +53,62 @@ class _CommitRefused(Error):
 
 
 class Conflict(_CommitRefused):
-    """A commit since the transaction began changed what it changed. The transaction is over: begin again."""
+    """A concurrent commit modified the same data. The transaction is over: begin again.
+
+    Attributes
+    ----------
+    commits : int
+        The number of the newest version.
+    """
 
     code = 2
 
 
 class TooOld(_CommitRefused):
-    """More commits came since the transaction began than are kept, or one and a trim. The transaction is over."""
+    """The changes of a commit since the begin aren't retained any more. The transaction is over: begin again.
+
+    Attributes
+    ----------
+    commits : int
+        The number of the newest version.
+    """
 
     code = 3
 
 
 class Full(_CommitRefused):
-    """The table would have more rows than its limit. After a write the transaction goes on, after a commit not."""
+    """The table would have more rows than its limit. The transaction survives a failed write, not a failed commit.
+
+    Attributes
+    ----------
+    commits : int
+        After a commit, the number of the newest version.
+    """
 
     code = 4
 
 
 class Duplicate(Error):
-    """There is a row of the key."""
+    """A row with this key exists."""
 
     code = 5
 
 
 class Missing(Error, KeyError):
-    """There is no row of the key, no savepoint any more, or no table of the name."""
+    """No row has this key, no table has this name, or there is no such savepoint any more."""
 
     code = 6
 
 
 class NotKept(Missing):
-    """What a commit changed isn't kept: too many came since, or a trim, or the table has no such commit.
+    """The changes of a commit aren't retained: too many came since, or a trim, or the table has no such commit.
 
-    Who follows a table begins anew then: with ``Table.pin`` for the table, and ``Table.changes`` after its number.
+    A follower starts again: with ``Table.pin`` for the rows, and ``Table.changes`` after the pin's number.
+
+    Attributes
+    ----------
+    number : int
+        The number of the commit.
     """
 
     #: The number of the commit.
@@ -83,17 +116,22 @@ class NotKept(Missing):
 
 
 class TypeMismatch(Error, ValueError):
-    """The cells don't fit the columns: their number, a type, a text above 4,096 bytes, a key column to be set."""
+    """Cells don't fit their columns: too few, a wrong type, a text of more than 4,096 bytes, a key column to be set."""
 
     code = 7
 
 
 class BadTable(Error, ValueError):
-    """The text is no table, or names or keys of columns make none.
+    """The text isn't a table, or the names or keys of columns don't make one.
 
-    Of a text ``cause`` says what is wrong, and ``record`` and ``column`` where: the record counts from 1 with the
-    header, the column from 0, and it is 0 where the whole record is meant. Of columns all three are None, as they are
-    of a folder's header.
+    Attributes
+    ----------
+    cause : str or None
+        For a text, what is wrong. None for columns, and for the header in a folder.
+    record : int or None
+        For a text, the record, from 1 with the header.
+    column : int or None
+        For a text, the column, from 0, or 0 for the whole record.
     """
 
     code = 8
@@ -102,7 +140,7 @@ class BadTable(Error, ValueError):
 
 
 class BadLimit(Error, ValueError):
-    """``recent`` or ``row_limit`` is outside its range."""
+    """``recent``, ``row_limit`` or another option is outside its range."""
 
     code = 9
 
@@ -114,36 +152,35 @@ class TooManyRows(Error, ValueError):
 
 
 class TooSmall(Error):
-    """Room that was passed is too small. No call of this package should raise it."""
+    """A buffer is too small. No call of this package should raise it."""
 
     code = 11
 
 
 class BadCheckpoint(Error, ValueError):
-    """A column's file can't be read as one."""
+    """The file of a column can't be read as one."""
 
     code = 12
 
 
 class NoCheckpoint(Error):
-    """The files of a folder hold no whole checkpoint."""
+    """The files in a folder contain no complete checkpoint."""
 
     code = 13
 
 
 class Misuse(Error, RuntimeError):
-    """The call may not be made now: the table is closed, the transaction over, or another thread in a call of it."""
+    """The call isn't allowed now: the table is closed, the transaction over, or another thread is in a call of it."""
 
     code = 14
 
 
 class Borrowed(Misuse, BufferError):
-    """Numbers that ``Transaction.int_spans`` borrowed are in use, by an array or a view over them. Let go of it
-    first."""
+    """An array or a view is still over memory that ``Snapshot.int_spans`` returned. Delete it first."""
 
 
 class ReadOnly(Misuse, AttributeError):
-    """A write was asked of a snapshot, of ``Table.read``: ``Table.begin`` begins a transaction, which writes."""
+    """A snapshot was asked to write. ``Table.begin`` begins a transaction, which writes."""
 
 
 class _OfFiles(Error, OSError):
@@ -160,13 +197,27 @@ class _OfFiles(Error, OSError):
 
 
 class FileFailed(_OfFiles):
-    """A file can't be made, written, synced or read: ``errno`` says why, and ``filename`` is the folder."""
+    """A file can't be created, written, synced or read.
+
+    Attributes
+    ----------
+    errno : int
+        The cause.
+    filename : str, bytes or os.PathLike
+        The folder.
+    """
 
     code = 15
 
 
 class Exists(_OfFiles, FileExistsError):
-    """A file of a table is in the folder already, which is ``filename``, or a table of the name in that database."""
+    """A folder has a file of a checkpoint already, or a database has a table of this name.
+
+    Attributes
+    ----------
+    filename : str, bytes or os.PathLike
+        The folder.
+    """
 
     code = 16
 
@@ -178,19 +229,25 @@ class Superseded(Error):
 
 
 class NotAscending(Error, ValueError):
-    """A row's key isn't above that of the row before it. ``open`` sorts such columns, and does not raise it."""
+    """A row's key isn't above the key of the row before it. ``open`` sorts such columns, and doesn't raise it."""
 
     code = 18
 
 
 class DeviceFailed(Error):
-    """A stream of Arrow's failed, whose own words the sentence has."""
+    """An Arrow stream failed; the sentence has its message."""
 
     code = 19
 
 
 class Locked(_OfFiles, BlockingIOError):
-    """The database is open already, in another process or in this one. ``filename`` is its folder."""
+    """The database is open already, in this process or another.
+
+    Attributes
+    ----------
+    filename : str, bytes or os.PathLike
+        The folder.
+    """
 
     code = 20
 
@@ -205,25 +262,57 @@ class _OfDatabase(_OfFiles):
 
 
 class Corrupt(_OfDatabase):
-    """What was durable is damaged: ``file`` says which file, or ``commit`` which commit. No file was changed."""
+    """Durable data is corrupt. No file was changed.
+
+    Attributes
+    ----------
+    file : str or None
+        The file, by its name in the folder.
+    commit : int or None
+        The number of the commit.
+    """
 
     code = 21
 
 
 class Incomplete(_OfDatabase):
-    """A file of the database, or a commit, is missing: ``file`` or ``commit`` says which. No file was changed."""
+    """A file of the database, or a commit, is missing. No file was changed.
+
+    Attributes
+    ----------
+    file : str or None
+        The file, by its name in the folder.
+    commit : int or None
+        The number of the commit.
+    """
 
     code = 22
 
 
 class Mismatch(_OfDatabase):
-    """The journal isn't of these tables: ``commit`` or ``file`` says where that was seen. No file was changed."""
+    """The journal isn't the journal of these tables. No file was changed.
+
+    Attributes
+    ----------
+    file : str or None
+        The file, by its name in the folder.
+    commit : int or None
+        The number of the commit.
+    """
 
     code = 23
 
 
 class OutcomeUnknown(_OfFiles):
-    """The device failed over the commit. The transaction is over: it is there or not, as the next opening tells."""
+    """I/O error during a commit: whether it is durable is unknown until the database is reopened.
+
+    The transaction is over.
+
+    Attributes
+    ----------
+    commits : int
+        The number that the commit has if it is durable.
+    """
 
     code = 24
     #: The number that the commit has if it is there.
@@ -231,25 +320,31 @@ class OutcomeUnknown(_OfFiles):
 
 
 class WritesFailed(_OfFiles):
-    """The device has failed: the database takes no write until it is opened again. The transaction stays open."""
+    """An earlier write failed: the database takes no writes until it is reopened. The transaction stays open."""
 
     code = 25
 
 
 class TooLong(Error):
-    """What the transaction changes takes 4 GiB or more in the journal. It stays open: go back, or commit less."""
+    """The transaction's changes take 4 GiB or more in the journal. It stays open: commit less at a time."""
 
     code = 26
 
 
 class NewerFormat(_OfDatabase):
-    """A later version of the library wrote a file of the database. Nothing is changed: open it by that version."""
+    """A later version of the library wrote a file of the database. Nothing was changed: open it with that version.
+
+    Attributes
+    ----------
+    file : str or None
+        The file, by its name in the folder.
+    """
 
     code = 27
 
 
 class ReadOnlyDatabase(Error):
-    """The database was opened for reading alone. A transaction stays open."""
+    """The database was opened read-only. A transaction stays open."""
 
     code = 28
 

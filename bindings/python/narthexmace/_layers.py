@@ -17,11 +17,20 @@ _KINDS = {1: INSERT, 2: DELETE, 3: MODIFY}
 class Entry(NamedTuple):
     """An entry of a layer, which changes a row below it.
 
-    ``layer`` is "read" for the Read-PDT, "write" for the Write-PDT, "own" for a transaction's, or "commit" for what one
-    commit changed of the table before it. ``sid`` is where the entry stands among the rows below the layer; ``rid``
-    where its row is among those above, or, of a delete, would be.
-    ``kind`` is "insert", "delete" or "modify", and ``column`` that of a modify. ``values`` are the row that is
-    inserted, the key of the row that is deleted, or the cell that is set.
+    Attributes
+    ----------
+    layer : {"read", "write", "own", "commit"}
+        The Read-PDT, the Write-PDT, a transaction's own writes, or what a commit changed of the version before it.
+    sid : int
+        Its position among the rows below the layer.
+    rid : int
+        The position of its row among the rows above the layer; for a delete, where the row would be.
+    kind : {"insert", "delete", "modify"}
+        What it does.
+    column : str or None
+        The column that a modify sets.
+    values : tuple
+        The row that it inserts, the key of the row that it deletes, or the cell that it sets.
     """
 
     layer: str

@@ -7,9 +7,12 @@ import ctypes
 import os
 from ctypes import c_bool, c_char, c_char_p, c_int, c_int64, c_size_t, c_uint32, c_uint64, c_void_p
 from pathlib import Path
+from typing import NoReturn
 
 #: The environment variable that names another library than the one that was packed.
 PLACE = "NARTHEXMACE_LIBRARY"
+#: The environment variable by which the package is imported without a library, so that its documentation can be read.
+ABSENT = "NARTHEXMACE_WITHOUT_LIBRARY"
 
 #: What a number of a commit isn't.
 NO_NUMBER = 2**64 - 1
@@ -269,4 +272,16 @@ def _load() -> ctypes.CDLL:
     return library
 
 
-library = _load()
+class _Absent(ctypes.CDLL):
+    """No library: each of its calls raises ImportError."""
+
+    def __init__(self) -> None:
+        """Loads nothing."""
+
+    def __getattr__(self, name: str) -> NoReturn:
+        if name.startswith("__"):
+            raise AttributeError(name)
+        raise ImportError(f"{ABSENT} is set, so that no library is loaded, and {name} can't be called")
+
+
+library: ctypes.CDLL = _Absent() if os.environ.get(ABSENT) else _load()

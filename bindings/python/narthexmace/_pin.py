@@ -12,14 +12,13 @@ from ._transaction import Transaction
 
 
 class Pin(Single):
-    """The newest table as it was at ``Table.pin``, kept: transactions and snapshots begin over it until it is closed.
+    """A version of a table that is kept, over which transactions and snapshots begin. From ``Table.pin``.
 
-    Any threads may use it at once. Several threads read one table side by side so: each takes a snapshot of its own, by
-    ``read``. No begin waits for a commit, a fold or a checkpoint.
+    Any threads may use it at once. Several threads read one version side by side: each takes a snapshot by ``read``. A
+    begin waits for no commit, fold or checkpoint.
 
-    What commits, folds and checkpoints have replaced since stays in memory with a pin. With ``with`` it is closed at
-    the end of the block, and one that is dropped is closed, too. The close of its table closes it, and ends its
-    snapshots.
+    A pin keeps in memory what commits, folds and checkpoints have replaced since. With ``with`` it is closed at the end
+    of the block, and one that is dropped is closed too. Closing its table closes it, and ends its snapshots.
     """
 
     __slots__ = ("_handle", "_shaping", "__weakref__")
@@ -30,7 +29,7 @@ class Pin(Single):
 
     @property
     def number(self) -> int:
-        """The number of its table: how many commits made it."""
+        """The number of its version."""
         return self._handle.number
 
     @property
@@ -39,13 +38,39 @@ class Pin(Single):
         return self._handle.is_open
 
     def read(self) -> Snapshot:
-        """A snapshot of its table, for the thread that asks: ``with pin.read() as table:``. Misuse, NoMemory."""
+        """Take a snapshot of its version, for one thread: ``with pin.read() as snapshot:``.
+
+        Returns
+        -------
+        Snapshot
+            The snapshot.
+
+        Raises
+        ------
+        NoMemory
+            Out of memory. Nothing changed.
+        Misuse
+            The pin is closed.
+        """
         return Snapshot(TransactionHandle(self._handle.table, self._handle, reads=True), self._shaping)
 
     def begin(self) -> Transaction:
-        """Begins a transaction over its table. Misuse, NoMemory.
+        """Begin a transaction over its version.
 
-        It may write, and commits as one that began when that table was the newest: Conflict, TooOld.
+        It may write, and commits as one that began when this version was the newest: expect ``Conflict`` and
+        ``TooOld``.
+
+        Returns
+        -------
+        Transaction
+            The transaction.
+
+        Raises
+        ------
+        NoMemory
+            Out of memory. Nothing changed.
+        Misuse
+            The pin is closed.
         """
         return Transaction(TransactionHandle(self._handle.table, self._handle), self._shaping)
 
@@ -59,11 +84,39 @@ class Pin(Single):
         as_types: Optional[Mapping[str, str]] = None,
         batch: int = BATCH,
     ) -> ArrowScan:
-        """Its rows for whatever reads Arrow, from one position up to another, with these columns, or all.
+        """Return its rows for any library that reads Arrow.
 
-        ``keys`` are two keys in place of positions: from the first one on, and below the second; None is no bound.
-        ``as_types`` are the formats of some columns, as ``ArrowScan`` has them. The scan goes on when the pin is closed
-        while a stream of it is open, and no new stream begins then. TypeMismatch, Misuse, NoMemory.
+        The streams read batch by batch. The pin may be closed while a stream is open; no new stream begins then.
+
+        Parameters
+        ----------
+        columns : sequence of str, optional
+            The names of the columns; all of them by default.
+        start : int, optional
+            The position of the first row, from 0.
+        stop : int, optional
+            The position after the last row; the end by default.
+        keys : tuple of two keys, optional
+            The rows from the first key on and below the second, in place of positions. None for a key is no bound.
+        as_types : mapping of str to str, optional
+            Formats for some columns, as ``ArrowScan`` has them.
+        batch : int, optional
+            How many rows a batch has at most.
+
+        Returns
+        -------
+        ArrowScan
+            The scan.
+
+        Raises
+        ------
+        TypeMismatch
+            There is no such column, a format isn't valid for it, a column is named twice, a position is negative,
+            positions and keys are given, or a key doesn't fit the key columns.
+        NoMemory
+            Out of memory. Nothing changed.
+        Misuse
+            The pin is closed.
         """
         asked = Asked(start, stop, keys)
         return ArrowScan(self._handle, self._shaping, self._ranks, columns, asked, as_types, batch)
@@ -73,15 +126,46 @@ class Pin(Single):
             return [snapshot.rank(key).below for key in keys]
 
     def __arrow_c_stream__(self, requested_schema: Any = None) -> Any:
-        """All rows, as a capsule of Arrow's. Any threads have streams of one pin at once. Misuse, NoMemory."""
+        """Return all rows as an Arrow stream capsule. Several threads may have streams of one pin at once.
+
+        Parameters
+        ----------
+        requested_schema : capsule, optional
+            A schema, read only for whether texts have offsets of 32 or of 64 bits.
+
+        Returns
+        -------
+        capsule
+            A ``PyCapsule`` named "arrow_array_stream".
+
+        Raises
+        ------
+        NoMemory
+            Out of memory. Nothing changed.
+        Misuse
+            The pin is closed.
+        """
         return self.arrow().__arrow_c_stream__(requested_schema)
 
     def __arrow_c_schema__(self) -> Any:
-        """The columns, as a capsule of Arrow's. Misuse, NoMemory."""
+        """Return the columns as an Arrow schema capsule.
+
+        Returns
+        -------
+        capsule
+            A ``PyCapsule`` named "arrow_schema".
+
+        Raises
+        ------
+        NoMemory
+            Out of memory. Nothing changed.
+        Misuse
+            The pin is closed.
+        """
         return self.arrow().__arrow_c_schema__()
 
     def close(self) -> None:
-        """Lets the table go. What began over it goes on. Closing again is no error."""
+        """Release the version. Snapshots and transactions that began over it stay open. Closing again does nothing."""
         self._handle.abort()
 
     def __enter__(self) -> "Pin":

@@ -9,10 +9,14 @@ COMMITTED, NOT_COMMITTED, IN_DOUBT = "committed", "not committed", "in doubt"
 
 
 class RangesError(Error):
-    """A call that ranges did not answer as they should. ``outcome`` says what is known of its transaction.
+    """A range, or the log of decisions, didn't respond as it should.
 
-    "not committed": nothing of it is there, or will be. "committed": it is decided and lasts, and readers see it once
-    its ranges are reached again. "in doubt": ``Ranges.outcome`` tells, once the range, or the log, is reached again.
+    Attributes
+    ----------
+    outcome : {"not committed", "committed", "in doubt"}
+        What is known of the transaction. "not committed": nothing of it is there, or will be. "committed": it is
+        decided and durable, and visible once its ranges are reached again. "in doubt": ``Ranges.outcome`` returns
+        which, once the range or the log is reached again.
     """
 
     outcome = NOT_COMMITTED
@@ -23,11 +27,11 @@ class RangesError(Error):
 
 
 class TimedOut(RangesError, TimeoutError):
-    """A range did not answer in time, or none could be opened again: its worker is slow, stopped or cut off."""
+    """A range didn't respond in time, or none could be opened again: its worker is slow, stopped or cut off."""
 
 
 class Gone(RangesError):
-    """A worker died, with the transactions and versions that it had, or a version isn't kept any more: begin again."""
+    """A worker died with its transactions and versions, or a version isn't retained any more: begin again."""
 
 
 class Closed(Gone):
@@ -35,4 +39,4 @@ class Closed(Gone):
 
 
 class LogFailed(RangesError):
-    """The decision log could not be written: no transaction over several ranges commits until it is opened again."""
+    """The log of decisions can't be written: no transaction over several ranges commits until the table is reopened."""

@@ -46,14 +46,59 @@ def create(
     seconds: float = 10.0,
     opening: float = 60.0,
 ) -> "Ranges":
-    """Makes a table in key ranges in a folder that all workers share, and opens it as ``connect`` does.
+    """Create a table in key ranges in a folder that all workers share, and open it as ``connect`` does.
 
-    ``table``, ``key``, ``types`` and the options are those of ``narthexmace.open``, ``row_limit`` that of a range.
-    ``bounds`` are keys in ascending order: the first range has the rows below the first bound, and each further one
-    begins at a bound. The rows go through this process: a large table is made empty, and filled by ``Ranges.begin``.
+    The rows go through this process: create a large table empty, and fill it by ``Ranges.begin``.
 
-    Exists, where the folder has something in it; TypeMismatch, of the bounds; those of ``narthexmace.open`` and
-    ``connect``.
+    Parameters
+    ----------
+    folder : str, bytes or os.PathLike
+        An empty folder, or one to be created.
+    table : str, bytes, os.PathLike, mapping, DataFrame or object with ``__arrow_c_stream__``
+        The rows, as ``narthexmace.open`` takes them.
+    bounds : sequence of keys
+        Keys in ascending order. The first range has the rows below the first bound; each further range begins at a
+        bound.
+    key : str or sequence of str, optional
+        The columns that are the key, as in ``narthexmace.open``.
+    types : mapping of str to str, optional
+        Types and formats of some columns, as in ``narthexmace.open``.
+    recent : int, optional
+        How many commits may come between a transaction's begin and its commit in a range: 1 to 65,536.
+    row_limit : int, optional
+        How many rows a range may have: 1 to 2,147,483,647.
+    conflicts : {"column", "row"}, optional
+        Whether changes of two columns of one row conflict ("row") or not ("column").
+    client : distributed.Client, optional
+        The client of the cluster; Dask's default client if there is none.
+    seconds : float, optional
+        How long a call waits for its ranges.
+    opening : float, optional
+        How long all ranges have to open, in seconds.
+
+    Returns
+    -------
+    Ranges
+        The table.
+
+    Raises
+    ------
+    Exists
+        The folder isn't empty.
+    TypeMismatch
+        A bound doesn't fit the key columns, the bounds don't ascend, or a value doesn't fit the type of its column.
+    BadTable
+        The text or the columns don't describe a table, as in ``narthexmace.open``.
+    TooManyRows
+        More rows than ``row_limit``.
+    BadLimit
+        ``recent``, ``row_limit`` or ``conflicts`` isn't valid.
+    TimedOut
+        A range didn't respond in time, or none could be opened again.
+    Gone
+        A worker died with a version or a transaction that the call needs, or a version isn't retained any more.
+    Error
+        An exception of ``narthexmace.open`` or, for a range, of ``narthexmace.connect``.
     """
     path, user = os.path.abspath(os.fsdecode(folder)), client or default_client()
     options = {"recent": recent, "row_limit": row_limit, "conflicts": conflicts}
@@ -86,15 +131,41 @@ def create(
 def connect(
     folder: Path, *, client: Optional[Client] = None, seconds: float = 10.0, opening: float = 60.0
 ) -> "Ranges":
-    """Opens a table in ranges, and makes this process its coordinator: ``with narthexmace.dask.connect(..) as t:``.
+    """Open a table in ranges, with this process as its coordinator: ``with narthexmace.dask.connect(..) as table:``.
 
-    ``folder`` is one that all workers share, by the same path. Each range is opened by a worker of ``client``, or of
-    Dask's default client, which waits for the lock of an owner that is dying. What was decided and not installed is.
-    ``seconds`` is how long a call waits for its ranges, and ``opening`` how long all of them have to open.
+    A worker opens each range, and waits for the lock of an owner that is dying. Decided commits that aren't installed
+    yet are installed.
 
-    Locked: another process is the coordinator, or has a range. Incomplete: a file is missing, as where the table was
-    never made whole. Corrupt: the log of decisions is damaged. TimedOut, Gone, and those of ``narthexmace.connect``, of
-    a range.
+    Parameters
+    ----------
+    folder : str, bytes or os.PathLike
+        The folder, which all workers share by the same path.
+    client : distributed.Client, optional
+        The client of the cluster; Dask's default client if there is none.
+    seconds : float, optional
+        How long a call waits for its ranges.
+    opening : float, optional
+        How long all ranges have to open, in seconds.
+
+    Returns
+    -------
+    Ranges
+        The table.
+
+    Raises
+    ------
+    Locked
+        Another process is the coordinator, or has a range open.
+    Incomplete
+        A file is missing, as in a folder whose table was never created whole.
+    Corrupt
+        The log of decisions is corrupt.
+    TimedOut
+        A range didn't respond in time, or none could be opened again.
+    Gone
+        A worker died with a version or a transaction that the call needs, or a version isn't retained any more.
+    Error
+        For a range, an exception of ``narthexmace.connect``.
     """
     path = os.path.abspath(os.fsdecode(folder))
     layout = layout_at(path)
@@ -103,12 +174,12 @@ def connect(
 
 
 class Ranges(Single):
-    """A table in key ranges, each of which a worker of Dask's owns. This process is its coordinator.
+    """A table in key ranges, each owned by a worker of Dask, with this process as its coordinator.
 
-    Any threads may use it at once. One commit goes on at a time, of all threads: they are in one order, and ``vector``
-    is the table after some of them, with none left out. Every call ends in ``seconds``, or a small multiple of it where
-    a range is lost: TimedOut or Gone then, whose ``outcome`` says what is known. A worker that dies is replaced at the
-    next call that wants its range. With ``with`` it is closed at the end of the block.
+    Any threads may use it at once. Commits of all threads take place one after the other, in one order; ``vector`` is
+    the table after a prefix of them. Every call ends in ``seconds``, or a small multiple of it if a range is lost, with
+    ``TimedOut`` or ``Gone``, whose ``outcome`` says what is known. A worker that dies is replaced at the next call that
+    needs its range. With ``with`` it is closed at the end of the block.
     """
 
     def __init__(self, coordinator: Coordinator, layout: Layout, folder: str) -> None:
@@ -116,7 +187,7 @@ class Ranges(Single):
 
     @property
     def columns(self) -> Tuple[Column, ...]:
-        """The columns, those of the key first."""
+        """The columns, the key columns first."""
         return self._layout.columns
 
     @property
@@ -126,7 +197,7 @@ class Ranges(Single):
 
     @property
     def vector(self) -> Vector:
-        """The newest version of each range that is published: together, the table at one moment."""
+        """The newest published version of each range: together, the table as of one moment."""
         return self._coordinator.vector
 
     @property
@@ -135,12 +206,38 @@ class Ranges(Single):
         return tuple(it.address for it in self._coordinator.ranges)
 
     def begin(self) -> "RangesTransaction":
-        """Begins a transaction over the newest vector. Misuse."""
+        """Begin a transaction over the newest vector.
+
+        Returns
+        -------
+        RangesTransaction
+            The transaction.
+
+        Raises
+        ------
+        Misuse
+            The table is closed.
+        """
         self._coordinator.check_open()
         return RangesTransaction(self, self._coordinator, self.vector)
 
     def pin(self) -> "RangesPin":
-        """Keeps the newest vector, so that it is read until the pin is closed, or a worker dies. TimedOut, Gone."""
+        """Pin the newest vector, so that it can be read until the pin is closed, or a worker dies.
+
+        Returns
+        -------
+        RangesPin
+            The pin.
+
+        Raises
+        ------
+        TimedOut
+            A range didn't respond in time, or none could be opened again.
+        Gone
+            A worker died with a version or a transaction that the call needs, or a version isn't retained any more.
+        Misuse
+            The table is closed.
+        """
         name, why = uuid.uuid4().hex, None
         for _ in range(_TRIES):
             vector = self.vector
@@ -152,17 +249,68 @@ class Ranges(Single):
         raise why or Gone("no vector could be kept")
 
     def get(self, key: Key, default: Any = None, *, at: Union["RangesPin", Vector, None] = None) -> Any:
-        """The row of a key, or ``default``: of the newest vector, or of another one. TypeMismatch, TimedOut, Gone."""
+        """Return the row of a key.
+
+        Parameters
+        ----------
+        key : cell or sequence of cells
+            The cells of the key columns; the cell itself for a key of one column.
+        default : object, optional
+            What to return if no row has this key.
+        at : RangesPin or vector, optional
+            The vector to read; the newest by default.
+
+        Returns
+        -------
+        tuple or object
+            The row's cells in the order of the columns, or ``default``.
+
+        Raises
+        ------
+        TypeMismatch
+            The key doesn't fit the key columns, or the vector hasn't a version for each range.
+        TimedOut
+            A range didn't respond in time, or none could be opened again.
+        Gone
+            A worker died with a version or a transaction that the call needs, or a version isn't retained any more.
+        Misuse
+            The table is closed.
+        """
         cells = self._layout.key_of(key)
         place = self._layout.place_of(cells)
         row = self._all("get", {place: (self._vector_at(at)[place], cells)})[0]
         return default if row is None else tuple(row)
 
     def map(self, function: Callable[..., Any], *given: Any, at: Union["RangesPin", Vector, None] = None) -> List[Any]:
-        """What a function answers of each range, in the order of the keys: it is called where the range is.
+        """Call a function in each range, where the range is, and return the results in the order of the keys.
 
-        Its first argument is the range's ``Snapshot`` at the newest vector, or at another one. It is called once more
-        where a worker dies meanwhile. What it raises, TimedOut, Gone.
+        Its first argument is the range's ``Snapshot``. It is called again if a worker dies meanwhile. An exception that
+        it raises is raised here.
+
+        Parameters
+        ----------
+        function : callable
+            The function, which Dask carries to the workers.
+        *given : object
+            Further arguments.
+        at : RangesPin or vector, optional
+            The vector to read; the newest by default.
+
+        Returns
+        -------
+        list of object
+            What the function returned for each range.
+
+        Raises
+        ------
+        TypeMismatch
+            The vector hasn't a version for each range.
+        TimedOut
+            A range didn't respond in time, or none could be opened again.
+        Gone
+            A worker died with a version or a transaction that the call needs, or a version isn't retained any more.
+        Misuse
+            The table is closed.
         """
         vector = self._vector_at(at)
         return self._all("map", {place: (version, function, given) for place, version in enumerate(vector)})
@@ -170,27 +318,64 @@ class Ranges(Single):
     def frame(
         self, columns: Optional[Sequence[str]] = None, *, at: Union["RangesPin", Vector, None] = None
     ) -> "DataFrame":
-        """The table as a dataframe of Dask's, with a part for each range, read by its owner when it is computed.
+        """Return the table as a DataFrame of Dask, with a partition for each range, read when it is computed.
 
-        All parts are of the newest vector, or of another one. That has to be there when it is computed: a pin keeps it.
-        A key of one int or text that isn't declared is the index, with the bounds as divisions. The types
-        of the columns are those of ``Snapshot.to_pandas``. Each owner gives a sign first, and a range whose
-        worker has died is opened again. TimedOut, Gone; Gone also when it is computed, where a worker dies meanwhile.
+        All partitions are of one vector. It has to be there when the frame is computed: a pin keeps it. A key of one
+        int or text that isn't declared is the index, with the bounds as divisions. The dtypes are those of
+        ``Snapshot.to_pandas``. A range whose worker has died is opened again first.
+
+        Parameters
+        ----------
+        columns : sequence of str, optional
+            The names of the columns; all of them by default.
+        at : RangesPin or vector, optional
+            The vector to read; the newest by default.
+
+        Returns
+        -------
+        dask.dataframe.DataFrame
+            The frame.
+
+        Raises
+        ------
+        TypeMismatch
+            There is no such column, or the vector hasn't a version for each range.
+        TimedOut
+            A range didn't respond in time, or none could be opened again.
+        Gone
+            A worker died, here or when the frame is computed, or a version isn't retained any more.
+        Misuse
+            The table is closed.
         """
         self._all("here", {place: () for place in range(len(self.bounds) + 1)})  # a sign of each owner
         vector = self._vector_at(at)
         return frame_of(self._coordinator.ranges, self._layout, vector, columns)
 
     def outcome(self, name: str) -> str:
-        """What is known of a transaction of a name: "committed", "not committed", or "in doubt".
+        """Return what is known of a transaction: "committed", "not committed", or "in doubt".
 
-        It is told also after another opening. It is in doubt where a range isn't reached, or where it began before the
-        last 4,096 transactions of one. Misuse, where it is the name of none.
+        It is known also after another opening. It is in doubt if a range can't be reached, or if the transaction began
+        before the last 4,096 transactions of a range.
+
+        Parameters
+        ----------
+        name : str
+            The transaction's name, ``RangesTransaction.name``.
+
+        Returns
+        -------
+        str
+            The outcome.
+
+        Raises
+        ------
+        Misuse
+            The name isn't a transaction's.
         """
         return self._coordinator.outcome(name)
 
     def close(self) -> None:
-        """Closes the ranges, and ends to be the coordinator. Closing again is no error."""
+        """Close the ranges, and stop being the coordinator. Closing again does nothing."""
         self._coordinator.close()
 
     def __enter__(self) -> "Ranges":
@@ -250,7 +435,15 @@ class Ranges(Single):
 
 
 class RangesPin(Single):
-    """A vector that is kept, ``Ranges.pin``. A range whose worker has died has it no more: Gone. With ``with``, too."""
+    """A vector that is kept, from ``Ranges.pin``. With ``with`` it is closed at the end of the block.
+
+    A range whose worker has died doesn't have it any more: reads raise ``Gone``.
+
+    Attributes
+    ----------
+    vector : tuple of int
+        The version of each range.
+    """
 
     def __init__(self, coordinator: Coordinator, name: str, vector: Vector) -> None:
         self._coordinator, self._name = coordinator, name
@@ -258,7 +451,7 @@ class RangesPin(Single):
         self.vector: Vector = vector
 
     def close(self) -> None:
-        """Lets the vector go. Closing again is no error."""
+        """Release the vector. Closing again does nothing."""
         places = zip(self._coordinator.ranges, self.vector)
         asked = [it.ask("let_go", self._name, version) for it, version in places]
         deadline = Deadline(self._coordinator.seconds)

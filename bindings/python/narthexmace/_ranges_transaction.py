@@ -15,11 +15,17 @@ if TYPE_CHECKING:
 
 
 class RangesTransaction(Single):
-    """A transaction over a table in ranges, ``Ranges.begin``: it sees one vector, and its own writes.
+    """A transaction over a table in ranges: one vector, with its own writes. From ``Ranges.begin``.
 
-    Each write goes to the range of its key, and is answered at once: Duplicate, Missing, Full, TypeMismatch, as of a
-    table alone. It commits in all ranges that it has written, or in none. With ``with`` it commits at the end of the
-    block, and is aborted at an exception. One thread at a time.
+    Each write goes to the range of its key. It commits in all ranges that it has written, or in none. With ``with`` it
+    commits at the end of the block, and aborts at an exception. One thread at a time uses it.
+
+    Attributes
+    ----------
+    name : str
+        Its name, for ``Ranges.outcome``.
+    vector : tuple of int
+        The versions that it sees.
     """
 
     def __init__(self, ranges: "Ranges", coordinator: Coordinator, vector: Vector) -> None:
@@ -37,23 +43,111 @@ class RangesTransaction(Single):
         return self._open
 
     def get(self, key: Key, default: Any = None) -> Any:
-        """The row of a key as a tuple, or ``default``. TypeMismatch, TimedOut, Gone."""
+        """Return the row of a key.
+
+        Parameters
+        ----------
+        key : cell or sequence of cells
+            The cells of the key columns; the cell itself for a key of one column.
+        default : object, optional
+            What to return if no row has this key.
+
+        Returns
+        -------
+        tuple or object
+            The row's cells in the order of the columns, or ``default``.
+
+        Raises
+        ------
+        TypeMismatch
+            The key doesn't fit the key columns.
+        TimedOut
+            A range didn't respond in time, or none could be opened again.
+        Gone
+            A worker died with a version or a transaction that the call needs, or a version isn't retained any more.
+        Misuse
+            The transaction is over.
+        """
         cells = self._layout.key_of(key)
         row = self._do(cells, "get", cells)
         return default if row is None else tuple(row)
 
     def insert(self, row: Union[Sequence[Cell], Mapping[str, Cell]]) -> None:
-        """Inserts a row. Duplicate, Full, TypeMismatch, TimedOut, Gone."""
+        """Insert a row.
+
+        Parameters
+        ----------
+        row : sequence of cells, or mapping of str to cell
+            The cells in the order of the columns, or by their names.
+
+        Raises
+        ------
+        Duplicate
+            A row with this key exists.
+        Full
+            The range would have more rows than ``row_limit``.
+        TypeMismatch
+            A cell doesn't fit its column, or there are too few or too many.
+        TimedOut
+            A range didn't respond in time, or none could be opened again.
+        Gone
+            A worker died with a version or a transaction that the call needs, or a version isn't retained any more.
+        Misuse
+            The transaction is over.
+        """
         cells = self._layout.row_of(row)
         self._do(cells[: len(self._layout.key)], "insert", cells)
 
     def delete(self, key: Key) -> None:
-        """Deletes the row of a key. Missing, TypeMismatch, TimedOut, Gone."""
+        """Delete the row of a key.
+
+        Parameters
+        ----------
+        key : cell or sequence of cells
+            The cells of the key columns; the cell itself for a key of one column.
+
+        Raises
+        ------
+        Missing
+            No row has this key.
+        TypeMismatch
+            The key doesn't fit the key columns.
+        TimedOut
+            A range didn't respond in time, or none could be opened again.
+        Gone
+            A worker died with a version or a transaction that the call needs, or a version isn't retained any more.
+        Misuse
+            The transaction is over.
+        """
         cells = self._layout.key_of(key)
         self._do(cells, "delete", cells)
 
     def set(self, key: Key, column: str, value: Cell) -> None:
-        """Sets a cell in the row of a key. Missing, TypeMismatch, TimedOut, Gone."""
+        """Set one cell of the row of a key.
+
+        Parameters
+        ----------
+        key : cell or sequence of cells
+            The cells of the key columns; the cell itself for a key of one column.
+        column : str
+            The column's name. It isn't a key column.
+        value : cell
+            The value.
+
+        Raises
+        ------
+        Missing
+            No row has this key.
+        TypeMismatch
+            The key doesn't fit the key columns, there is no such column, it is a key column, or the value doesn't fit
+            it.
+        TimedOut
+            A range didn't respond in time, or none could be opened again.
+        Gone
+            A worker died with a version or a transaction that the call needs, or a version isn't retained any more.
+        Misuse
+            The transaction is over.
+        """
         cells = self._layout.key_of(key)
         self._do(cells, "set", cells, column, value)
 
@@ -73,11 +167,32 @@ class RangesTransaction(Single):
             raise
 
     def commit(self) -> Vector:
-        """Commits in all ranges that it has written, or in none, and answers a vector that has it. It is over then.
+        """Commit in all ranges that it has written, or in none, and return a vector that has the commit.
 
-        Conflict, TooOld, Full: a range refuses it, and nothing is committed: begin again. Gone: nothing is committed,
-        and the range that it was in was lost. TimedOut, LogFailed: their ``outcome`` says what is known, and
-        ``Ranges.outcome`` of its name tells later.
+        The transaction is over then.
+
+        Returns
+        -------
+        tuple of int
+            The vector.
+
+        Raises
+        ------
+        Conflict
+            A range refuses it: a concurrent commit modified the same data. Nothing is committed: begin again.
+        TooOld
+            A range refuses it: the changes of a commit since the begin aren't retained. Nothing is committed: begin
+            again.
+        Full
+            A range would have more rows than ``row_limit``. Nothing is committed.
+        Gone
+            A range that it was in was lost. Nothing is committed.
+        TimedOut
+            A range didn't respond in time: ``outcome`` says what is known, and ``Ranges.outcome`` later.
+        LogFailed
+            The log of decisions can't be written: ``outcome`` says what is known, and ``Ranges.outcome`` later.
+        Misuse
+            The transaction is over.
         """
         self._check_open()
         self._open = False
@@ -88,7 +203,7 @@ class RangesTransaction(Single):
         return self._coordinator.commit(self.name, self._wrote)
 
     def abort(self) -> None:
-        """Ends it without a trace. Aborting again is no error."""
+        """End it without a commit. Aborting again does nothing."""
         if self._open:
             self._open = False
             self._coordinator.end(self.name, self._begun)

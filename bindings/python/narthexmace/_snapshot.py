@@ -29,19 +29,26 @@ _WRITES = ("insert", "delete", "set", "insert_many", "upsert_many", "delete_many
 
 
 class Rank(NamedTuple):
-    """How many rows are below a key, and whether there is a row of it."""
+    """Where a key is among the rows.
+
+    Attributes
+    ----------
+    below : int
+        How many rows have a smaller key: the position of the key's row, if there is one.
+    there : bool
+        Whether a row has this key.
+    """
 
     below: int
     there: bool
 
 
 class Snapshot(Single):
-    """The newest table as it was at ``Table.read``, or a pin's: what others commit later isn't seen in it.
+    """The rows of one version, for reading. From ``Table.read``, ``Pin.read`` or ``DatabaseSnapshot``.
 
-    One thread at a time: a call while another thread is in one raises Misuse, and so does a call once it is over.
-    Threads that read one table side by side take a ``Pin``, of ``Table.pin``, and each a snapshot of its own over it.
-    With ``with`` it is over at the end of the block, and one that is dropped is over, too. It takes no number of a
-    commit, however it ends. A write raises ReadOnly. The rows count from 0 in ascending key.
+    The rows are numbered from 0 in ascending key. Later commits aren't visible. A write raises ``ReadOnly``. One thread
+    at a time uses it: a call while another thread is in one raises ``Misuse``, and so does a call once it is over. With
+    ``with`` it ends with the block, and one that is dropped ends too.
     """
 
     __slots__ = ("_handle", "_shaping", "_writes", "_numbers", "_room", "__weakref__")
@@ -67,14 +74,20 @@ class Snapshot(Single):
 
     @property
     def version(self) -> int:
-        """The number of the table that it sees: how many commits made it. Misuse once it is over."""
+        """The number of the version that it sees. ``Misuse`` once it is over."""
         number = c_uint64()
         with self._handle as at:
             check(library.pdt_txn_version(at, byref(number)))
         return number.value
 
     def abort(self) -> None:
-        """Ends it without a trace. Aborting again is no error. Misuse of one table of several, which end at once."""
+        """End it without a commit. Aborting again does nothing.
+
+        Raises
+        ------
+        Misuse
+            It is part of a database transaction, which ends as a whole; or another thread is in a call of it.
+        """
         self._handle.abort()
 
     def __enter__(self: Self) -> Self:
@@ -89,7 +102,29 @@ class Snapshot(Single):
     # ---- reads of rows
 
     def get(self, key: Key, default: Any = None) -> Any:
-        """The row of a key as a tuple, or ``default`` where there is none. TypeMismatch, NoMemory."""
+        """Return the row of a key.
+
+        Parameters
+        ----------
+        key : cell or sequence of cells
+            The cells of the key columns; the cell itself for a key of one column.
+        default : object, optional
+            What to return if no row has this key.
+
+        Returns
+        -------
+        tuple or object
+            The row's cells in the order of the columns, or ``default``.
+
+        Raises
+        ------
+        TypeMismatch
+            The key doesn't fit the key columns.
+        NoMemory
+            Out of memory. Nothing changed.
+        Misuse
+            The transaction or snapshot is over, or another thread is in a call of it.
+        """
         numbers, texts, count = self._shaping.key(key)
 
         def call(at: int, *room: Any) -> int:
@@ -99,7 +134,29 @@ class Snapshot(Single):
         return default if row is None else row
 
     def rank(self, key: Key) -> Rank:
-        """How many rows are below a key, and whether there is a row of it: a range of keys is between two ranks."""
+        """Return how many rows have a smaller key, and whether a row has this key.
+
+        A range of keys is the range of positions between two ranks.
+
+        Parameters
+        ----------
+        key : cell or sequence of cells
+            The cells of the key columns; the cell itself for a key of one column.
+
+        Returns
+        -------
+        Rank
+            ``below`` and ``there``.
+
+        Raises
+        ------
+        TypeMismatch
+            The key doesn't fit the key columns.
+        NoMemory
+            Out of memory. Nothing changed.
+        Misuse
+            The transaction or snapshot is over, or another thread is in a call of it.
+        """
         numbers, texts, count = self._shaping.key(key)
         below, there = c_uint64(), c_bool()
         with self._handle as at:
@@ -107,12 +164,42 @@ class Snapshot(Single):
         return Rank(below.value, there.value)
 
     def __contains__(self, key: object) -> bool:
-        """Whether there is a row of a key, as ``rank`` has it: ``10 in txn``, ``("a", 1) in txn``. TypeMismatch,
-        NoMemory."""
+        """Return whether a row has a key: ``10 in snapshot``, ``("a", 1) in snapshot``.
+
+        Parameters
+        ----------
+        key : cell or sequence of cells
+            The cells of the key columns; the cell itself for a key of one column.
+
+        Returns
+        -------
+        bool
+            Whether there is such a row.
+
+        Raises
+        ------
+        TypeMismatch
+            The key doesn't fit the key columns.
+        NoMemory
+            Out of memory. Nothing changed.
+        Misuse
+            The transaction or snapshot is over, or another thread is in a call of it.
+        """
         return self.rank(key).there
 
     def __len__(self) -> int:
-        """How many rows there are."""
+        """Return how many rows there are.
+
+        Returns
+        -------
+        int
+            The number of rows.
+
+        Raises
+        ------
+        Misuse
+            The transaction or snapshot is over, or another thread is in a call of it.
+        """
         rows = c_uint64()
         with self._handle as at:
             check(library.pdt_rows(at, byref(rows)))
@@ -125,7 +212,27 @@ class Snapshot(Single):
     def __getitem__(self, position: slice) -> List[Row]: ...
 
     def __getitem__(self, position: Union[int, slice]) -> Union[Row, List[Row]]:
-        """The row at a position, IndexError where there is none; or the rows of a slice, as a list."""
+        """Return the row at a position, or the rows of a slice.
+
+        Parameters
+        ----------
+        position : int or slice
+            A position from 0, or from the end if it is negative; or a slice of positions.
+
+        Returns
+        -------
+        tuple or list of tuple
+            The row, or the rows of the slice.
+
+        Raises
+        ------
+        IndexError
+            There is no row at the position.
+        NoMemory
+            Out of memory. Nothing changed.
+        Misuse
+            The transaction or snapshot is over, or another thread is in a call of it.
+        """
         if isinstance(position, slice):
             return self._rows(position)
         place = operator.index(position)
@@ -145,7 +252,20 @@ class Snapshot(Single):
         return rows[:: taken.step]
 
     def __iter__(self) -> Iterator[Row]:
-        """The rows in ascending key. A write in between ends it with Misuse."""
+        """Iterate over the rows in ascending key. A write of the transaction ends it with ``Misuse``.
+
+        Yields
+        ------
+        tuple
+            The cells of each row in the order of the columns.
+
+        Raises
+        ------
+        NoMemory
+            Out of memory. Nothing changed.
+        Misuse
+            The transaction or snapshot is over, or another thread is in a call of it.
+        """
         for batch in self.scan(batch=1024):
             yield from batch.rows()
 
@@ -171,10 +291,35 @@ class Snapshot(Single):
         stop: Optional[int] = None,
         batch: int = BATCH,
     ) -> Iterator[Batch]:
-        """The rows from one position up to another, in batches, with these columns, or all.
+        """Return the rows between two positions in batches of columns.
 
-        Each batch has memory of its own, into which the numbers are copied once, by C. A write between two batches
-        would move the positions, so the next batch raises Misuse then.
+        Each batch has memory of its own, into which C copies the cells once. A write between two batches would move the
+        positions: the next batch raises ``Misuse``.
+
+        Parameters
+        ----------
+        columns : sequence of str, optional
+            The names of the columns; all of them by default.
+        start : int, optional
+            The position of the first row, from 0.
+        stop : int, optional
+            The position after the last row; the end by default.
+        batch : int, optional
+            How many rows a batch has at most.
+
+        Returns
+        -------
+        iterator of Batch
+            The batches, in order.
+
+        Raises
+        ------
+        TypeMismatch
+            There is no such column, ``columns`` is a str, a position is negative, or ``batch`` is less than 1.
+        Misuse
+            At a later step: the transaction has written since the scan began, or is over.
+        NoMemory
+            Out of memory.
         """
         if isinstance(columns, str):
             raise TypeMismatch("columns are a list of names")
@@ -212,15 +357,53 @@ class Snapshot(Single):
     def int_spans(self, column: Names, start: int = 0, stop: Optional[int] = None) -> List[Tuple[memoryview, ...]]: ...
 
     def int_spans(self, column: Union[str, Names], start: int = 0, stop: Optional[int] = None) -> Any:
-        """The numbers of an int column between two positions where they lie in the library, for reading, with no copy.
+        """Return the int64 values of a column between two positions without a copy, as read-only views.
 
-        Of a list of columns they come beside each other: ``for ids, sums in txn.int_spans(["id", "sum"])`` has in each
-        round the same rows of both. A span ends where that of one of the columns does.
+        For a list of columns each step has the same rows of all: ``for ids, sums in txn.int_spans(["id", "sum"])``. A
+        span ends where a span of one of the columns does.
 
-        They may be read until the next write on this transaction, its commit or its end, which release them; reads
-        leave them alone. Where an array or another view still stands over one of them, a write or a commit raises
-        Borrowed instead, and does nothing; ``abort`` then frees the transaction with the last of them. ``scan`` copies,
-        and is faster from Python: a span has at most 1,024 rows. TypeMismatch, NoMemory.
+        The views are valid until the next write on the transaction, its commit or its end, which release them; reads
+        leave them alone. While an array or another view is over one, a write or a commit raises ``Borrowed`` instead
+        and does nothing; ``abort`` frees the transaction with the last of them.
+
+        Parameters
+        ----------
+        column : str, or list or tuple of str
+            An int column, or several.
+        start : int, optional
+            The position of the first row, from 0.
+        stop : int, optional
+            The position after the last row; the end by default.
+
+        Returns
+        -------
+        IntSpans or list of tuple of memoryview
+            The views of one column, or those of several columns side by side.
+
+        Raises
+        ------
+        TypeMismatch
+            There is no such column, it isn't an int column, or a position is negative.
+        NoMemory
+            Out of memory. Nothing changed.
+        Misuse
+            The transaction or snapshot is over, or another thread is in a call of it.
+
+        Notes
+        -----
+        ``scan`` copies, and is faster from Python: a span has at most 1,024 rows.
+
+        Examples
+        --------
+        >>> import narthexmace
+        >>> table = narthexmace.open("id:int:key,qty:int\\n1,5\\n2,7\\n")
+        >>> with table.read() as snapshot:
+        ...     print([sum(span) for span in snapshot.int_spans("qty")])
+        ...     for ids, qtys in snapshot.int_spans(["id", "qty"]):
+        ...         print(ids.tolist(), qtys.tolist())
+        [12]
+        [1, 2] [5, 7]
+        >>> table.close()
         """
         if isinstance(column, str):
             return IntSpans([view for (view,) in self._lend([self._int_column(column)], start, stop)])
@@ -243,14 +426,33 @@ class Snapshot(Single):
             return list(zip(*(self._handle.lend(runs) for runs in columns)))
 
     def to_pandas(self, columns: Optional[Sequence[str]] = None) -> "DataFrame":
-        """The table as a DataFrame, with these columns, or all. ImportError where pandas isn't there.
+        """Return the rows as a DataFrame of pandas.
 
-        The type of a column is that of its format, whatever values there are. Ints are int64, bools bool, and texts
-        Python's own, of the type object. Of columns that are declared, doubles ("g") are float64, and timestamps
-        datetime64[ns], of UTC where they have a time zone: None is NaN or NaT. Other numbers are int64, and Int64 with
-        "?" before their format. Dates and decimals are values of Python's, of the type object.
+        The dtype of a column depends on its format alone: int64, bool, and object for texts. Of declared columns,
+        doubles ("g") are float64; timestamps are datetime64[ns], of UTC if they have a time zone; dates and Decimals
+        are Python's own values, of dtype object. Other ints are int64, and Int64 with "?" before their format. None is
+        NaN, NaT or ``pandas.NA``.
 
-        TypeMismatch, where a timestamp is none that datetime64[ns] has: ``scan`` hands it out.
+        Parameters
+        ----------
+        columns : sequence of str, optional
+            The names of the columns; all of them by default.
+
+        Returns
+        -------
+        pandas.DataFrame
+            The rows, in ascending key.
+
+        Raises
+        ------
+        TypeMismatch
+            There is no such column, or a timestamp is outside of what datetime64[ns] can hold, 1677 to 2262.
+        ImportError
+            There is no pandas.
+        NoMemory
+            Out of memory. Nothing changed.
+        Misuse
+            The transaction or snapshot is over, or another thread is in a call of it.
         """
         import pandas
 
@@ -272,10 +474,40 @@ class Snapshot(Single):
         as_types: Optional[Mapping[str, str]] = None,
         batch: int = BATCH,
     ) -> ArrowScan:
-        """Its rows for whatever reads Arrow, as ``Pin.arrow``, with its own writes.
+        """Return its rows for any library that reads Arrow, with its own writes.
 
-        A stream copies all these rows when it is asked for, and stays as it is whatever is done next. Who has a large
-        table takes a pin, whose streams read batch by batch. TypeMismatch, Misuse, NoMemory.
+        Each stream of the scan copies all these rows when it is asked for. For a large table use ``Pin.arrow``, whose
+        streams read batch by batch.
+
+        Parameters
+        ----------
+        columns : sequence of str, optional
+            The names of the columns; all of them by default.
+        start : int, optional
+            The position of the first row, from 0.
+        stop : int, optional
+            The position after the last row; the end by default.
+        keys : tuple of two keys, optional
+            The rows from the first key on and below the second, in place of positions. None for a key is no bound.
+        as_types : mapping of str to str, optional
+            Formats for some columns, as ``ArrowScan`` has them.
+        batch : int, optional
+            How many rows a batch has at most.
+
+        Returns
+        -------
+        ArrowScan
+            The scan.
+
+        Raises
+        ------
+        TypeMismatch
+            There is no such column, a format isn't valid for it, a column is named twice, a position is negative,
+            positions and keys are given, or a key doesn't fit the key columns.
+        NoMemory
+            Out of memory. Nothing changed.
+        Misuse
+            The transaction or snapshot is over, or another thread is in a call of it.
         """
         asked = Asked(start, stop, keys)
         return ArrowScan(self._handle, self._shaping, self._ranks, columns, asked, as_types, batch)
@@ -284,11 +516,42 @@ class Snapshot(Single):
         return [self.rank(key).below for key in keys]
 
     def __arrow_c_stream__(self, requested_schema: Any = None) -> Any:
-        """All rows, copied now, as a capsule of Arrow's. Misuse, NoMemory."""
+        """Return all rows, copied now, as an Arrow stream capsule.
+
+        Parameters
+        ----------
+        requested_schema : capsule, optional
+            A schema, read only for whether texts have offsets of 32 or of 64 bits.
+
+        Returns
+        -------
+        capsule
+            A ``PyCapsule`` named "arrow_array_stream".
+
+        Raises
+        ------
+        NoMemory
+            Out of memory. Nothing changed.
+        Misuse
+            The transaction or snapshot is over, or another thread is in a call of it.
+        """
         return self.arrow().__arrow_c_stream__(requested_schema)
 
     def __arrow_c_schema__(self) -> Any:
-        """The columns, as a capsule of Arrow's. Misuse, NoMemory."""
+        """Return the columns as an Arrow schema capsule.
+
+        Returns
+        -------
+        capsule
+            A ``PyCapsule`` named "arrow_schema".
+
+        Raises
+        ------
+        NoMemory
+            Out of memory. Nothing changed.
+        Misuse
+            The transaction or snapshot is over, or another thread is in a call of it.
+        """
         return self.arrow().__arrow_c_schema__()
 
     def __repr__(self) -> str:

@@ -24,7 +24,19 @@ from ._transaction import Transaction
 
 
 class Sizes(NamedTuple):
-    """What has grown: the commits, the entries that ``fold`` moves, those that ``checkpoint`` moves, what is open."""
+    """What grows in a table between folds and checkpoints.
+
+    Attributes
+    ----------
+    commits : int
+        The number of the newest version.
+    write_entries : int
+        Entries of the Write-PDT, which ``fold`` moves into the Read-PDT.
+    read_entries : int
+        Entries of the Read-PDT, which ``checkpoint`` moves into the stable table.
+    open_transactions : int
+        Open transactions and snapshots.
+    """
 
     commits: int
     write_entries: int
@@ -33,17 +45,40 @@ class Sizes(NamedTuple):
 
 
 class Counts(NamedTuple):
-    """What a table has counted since its opening, and what it keeps now.
+    """A table's counters since its opening, and what it retains now.
 
-    ``begins`` are the transactions and snapshots that have begun; ``commits`` those that were committed, and changed
-    something; ``conflicts``, ``too_old`` and ``full`` those that a commit has ended so. ``checkpoints`` were installed,
-    and ``superseded`` were those that something else came before.
-
-    ``pins`` are kept now, and ``oldest_pin`` is the number of the oldest one's table, None where there is none. The
-    changes of the last ``kept`` commits are kept, with ``kept_entries`` entries.
-
-    ``waits`` is how often a thread found the lock of the table taken, and ``longest_hold`` the longest time that it was
-    held, in seconds. ``packs`` is how often a fold packed the Read-PDT for scans.
+    Attributes
+    ----------
+    begins : int
+        Transactions and snapshots begun.
+    commits : int
+        Transactions committed that changed something.
+    conflicts : int
+        Commits refused with ``Conflict``.
+    too_old : int
+        Commits refused with ``TooOld``.
+    full : int
+        Commits refused with ``Full``.
+    folds : int
+        Folds by ``Table.fold``.
+    checkpoints : int
+        Checkpoints installed.
+    superseded : int
+        Checkpoints that a fold or another checkpoint came before.
+    pins : int
+        Pins that are open now.
+    oldest_pin : int or None
+        The version of the oldest of them.
+    kept : int
+        Commits whose changes are retained now.
+    kept_entries : int
+        Entries of these changes.
+    waits : int
+        How often a thread waited for the table's lock.
+    longest_hold : float
+        The longest time that a call held the table's lock, in seconds.
+    packs : int
+        How often a fold packed the Read-PDT for scans.
     """
 
     begins: int
@@ -68,7 +103,13 @@ _TURN = 0.1
 
 
 def version() -> str:
-    """The version of the library that runs."""
+    """Return the version of the library that runs.
+
+    Returns
+    -------
+    str
+        The version, as "0.3.0".
+    """
     text: bytes = library.pdt_version()
     return text.decode()
 
@@ -82,26 +123,59 @@ def open(
     row_limit: int = MAX_ROWS,
     conflicts: str = "column",
 ) -> "Table":
-    """Opens a table over a table, which is a CSV text, the path of one, columns, or what has ``__arrow_c_stream__``.
+    """Open a table in memory over a CSV text, its path, columns, or a stream of Arrow's.
 
-    A text is ``bytes``, or a ``str`` that has an end of a line; any other ``str`` is a path, as is a ``Path``. Its
-    first record names the columns, as ``id:int:key,name:text``. Columns are a mapping from names to lists or arrays, or
-    a DataFrame of pandas; ``key`` names those of the key, which come first then, and ``types`` may give the type of
-    some: "int", "text" or "bool", or a format as ``Table.declare`` has them, as "g" of floats.
+    All rows are read into memory, in any order of their keys, and nothing is written to the source. Commits are in
+    memory until ``Table.checkpoint`` writes them.
 
-    What has ``__arrow_c_stream__``, as tables of pyarrow and DataFrames of polars, is read batch by batch, in C:
-    docs/ARROW says which types it may have. Its rows may stand in any order, and ``key`` names the columns of the key.
+    Parameters
+    ----------
+    table : str, bytes, os.PathLike, mapping, DataFrame or object with ``__arrow_c_stream__``
+        A CSV text: ``bytes``, or a ``str`` with a line end; its first record names the columns, as
+        ``id:int:key,name:text``. Any other ``str``, and an ``os.PathLike``, is the path of such a text. Columns: a
+        mapping from names to lists or arrays, or a DataFrame of pandas. A stream: a table of pyarrow, a DataFrame of
+        polars or any other object that has one, read batch by batch.
+    key : str or sequence of str, optional
+        The columns that are the key, which come first then. Needed for columns and streams; a CSV text has it in its
+        header.
+    types : mapping of str to str, optional
+        Types of some columns: "int", "text" or "bool", or a format that ``Table.declare`` takes, as "g" for floats.
+        Only for columns; a CSV text and a stream have types of their own.
+    recent : int, optional
+        How many commits may come between a transaction's begin and its commit, and how many commits ``changes``
+        retains: 1 to 65,536.
+    row_limit : int, optional
+        How many rows the table may have: 1 to 2,147,483,647.
+    conflicts : {"column", "row"}, optional
+        Whether changes of two columns of one row conflict ("row") or not ("column").
 
-    ``recent`` is how many commits may come between a transaction's begin and its commit, and of how many of the last
-    ones the changes are kept; ``row_limit`` is how many rows a table may have, and ``conflicts`` says whether changes
-    of two columns of one row conflict: "row", or not: "column".
+    Returns
+    -------
+    Table
+        The table.
 
-    The table is read whole, and stays in memory: nothing is written to the file, and commits last only once a
-    checkpoint has written them (``Table.checkpoint``).
-
-    BadTable, TypeMismatch (the columns), TooManyRows, BadLimit, NoMemory; OSError where the file can't be read. Of a
-    stream of Arrow's also Duplicate, where a key is there twice, and DeviceFailed, where the stream fails; ``row`` and
-    ``column`` of the exception say where.
+    Raises
+    ------
+    BadTable
+        The text isn't a table: ``record``, ``column`` and ``cause`` have its first fault. Or a name or the key of
+        columns isn't valid, or two rows of columns have one key.
+    TypeMismatch
+        A value doesn't fit the type of its column, or there is no such column. For a stream ``row`` and ``column`` have
+        the place.
+    Duplicate
+        Two rows of a stream have one key: ``row`` is the second one.
+    DeviceFailed
+        The stream failed, and the sentence has its message.
+    TooManyRows
+        More rows than ``row_limit``.
+    BadLimit
+        ``recent``, ``row_limit`` or ``conflicts`` isn't valid.
+    NoMemory
+        Out of memory.
+    OSError
+        The file can't be read.
+    TypeError
+        ``table`` isn't one of these, or ``key`` or ``types`` are given beside a source that has its own.
     """
     options, handle = options_of(recent, row_limit, conflicts), LoneHandle()
     open_table(calls_alone(), table, key, types, options, handle.room)
@@ -111,11 +185,48 @@ def open(
 def recover(
     folder: Path, *, recent: int = MAX_RECENT, row_limit: int = MAX_ROWS, conflicts: str = "column"
 ) -> "Table":
-    """Opens a table over the image that ``Table.checkpoint`` left in a folder, whose files are read whole.
+    """Open a table over a checkpoint in a folder, which ``Table.checkpoint`` wrote.
 
-    Later commits are in memory alone, and last once a checkpoint has written them into another folder.
+    The files are read whole and not changed. Later commits are in memory until a checkpoint writes them into another
+    folder.
 
-    FileFailed, BadTable (the header), BadCheckpoint, NoCheckpoint, TooManyRows, BadLimit, NoMemory.
+    Parameters
+    ----------
+    folder : str, bytes or os.PathLike
+        The folder.
+    recent : int, optional
+        How many commits may come between a transaction's begin and its commit: 1 to 65,536.
+    row_limit : int, optional
+        How many rows the table may have: 1 to 2,147,483,647.
+    conflicts : {"column", "row"}, optional
+        Whether changes of two columns of one row conflict ("row") or not ("column").
+
+    Returns
+    -------
+    Table
+        The table.
+
+    Raises
+    ------
+    FileFailed
+        A file can't be read: ``errno`` has the cause.
+    BadTable
+        ``header.csv`` doesn't describe columns.
+    BadCheckpoint
+        The file of a column can't be read as one.
+    NoCheckpoint
+        The files contain no complete checkpoint.
+    TooManyRows
+        More rows than ``row_limit``.
+    BadLimit
+        ``recent``, ``row_limit`` or ``conflicts`` isn't valid.
+    NoMemory
+        Out of memory.
+
+    Notes
+    -----
+    Truncated files and bytes that don't have a column's structure are found. Other damage isn't: a checkpoint has no
+    checksum. A database has them.
     """
     options = options_of(recent, row_limit, conflicts)
     handle = LoneHandle()
@@ -124,20 +235,21 @@ def recover(
 
 
 class Table(Single):
-    """A table that takes commits. Several threads may use it at once; each transaction is for one thread.
+    """An ordered table that takes commits.
 
-    Of a table outside a database, which ``open`` or ``recover`` gives, commits are in memory. What a checkpoint has
-    written lasts; what was committed since the last one is lost with the process, and with ``close``. Nothing folds or
-    checkpoints by itself: ``sizes`` says what has grown.
+    Any threads may use it at once; each transaction is for one thread at a time.
 
-    A table of a database, which ``connect`` opens, is a table like any other. Its commits last, and nobody need fold or
-    checkpoint it. Its numbers are those of the database, so that a commit that changed other tables alone takes one
-    here too.
+    A table outside a database, from ``open`` or ``recover``, is in memory. What a checkpoint has written is durable;
+    commits since the last one are lost with the process, and with ``close``. It needs explicit maintenance: ``sizes``
+    reports what has grown.
 
-    Commits are counted, and no record of one is kept but what each of the last ``recent`` ones changed, which
-    ``changes`` shows. So what a table keeps doesn't grow with the number of its commits.
+    A table of a database, from ``connect``, is durable and needs no maintenance. Its numbers are those of the database:
+    a commit that changed other tables takes a number here too.
 
-    With ``with`` it is closed at the end of the block.
+    A table retains what the last ``recent`` commits changed, for ``changes`` and late commits, and doesn't grow with
+    the number of commits.
+
+    With ``with`` the table is closed at the end of the block. A table of a database is closed by its database.
     """
 
     __slots__ = ("_handle", "_shaping", "__weakref__")
@@ -157,25 +269,76 @@ class Table(Single):
 
     @property
     def columns(self) -> Tuple[Column, ...]:
-        """The columns, those of the key first. They never change."""
+        """The columns, the key columns first. They never change."""
         return self._shaping.columns
 
     def read(self) -> Snapshot:
-        """A snapshot of the newest table, for reading: ``with table.read() as table:``. NoMemory.
+        """Take a snapshot of the newest version, for reading: ``with table.read() as snapshot:``.
 
-        It takes no number of a commit, so that no open transaction grows older by it. It is for one thread at a time:
-        ``pin`` is for threads that read one table side by side. It waits for no commit, no fold and no checkpoint.
+        It waits for no commit, fold or checkpoint, and takes no commit number, so that it makes no open transaction too
+        old. One thread at a time uses it: threads that read one version side by side use ``pin``.
+
+        Returns
+        -------
+        Snapshot
+            The snapshot.
+
+        Raises
+        ------
+        NoMemory
+            Out of memory. Nothing changed.
+        Misuse
+            The table is closed.
         """
         return Snapshot(TransactionHandle(self._handle, reads=True), self._shaping)
 
     def begin(self) -> Transaction:
-        """Begins a transaction over the newest table. It waits for no commit, no fold and no checkpoint. NoMemory."""
+        """Begin a transaction over the newest version: ``with table.begin() as txn:``.
+
+        It waits for no commit, fold or checkpoint.
+
+        Returns
+        -------
+        Transaction
+            The transaction.
+
+        Raises
+        ------
+        NoMemory
+            Out of memory. Nothing changed.
+        Misuse
+            The table is closed.
+        """
         return Transaction(TransactionHandle(self._handle), self._shaping)
 
     def pin(self) -> Pin:
-        """Keeps the newest table, so that any threads begin over it until the pin is closed. NoMemory.
+        """Pin the newest version, so that any threads read it until the pin is closed.
 
-        ``with table.pin() as pin:``, and then ``with pin.read() as table:`` in each thread.
+        ``with table.pin() as pin:``, and then ``with pin.read() as snapshot:`` in each thread.
+
+        Returns
+        -------
+        Pin
+            The pin.
+
+        Raises
+        ------
+        NoMemory
+            Out of memory. Nothing changed.
+        Misuse
+            The table is closed.
+
+        Examples
+        --------
+        >>> import narthexmace
+        >>> table = narthexmace.open("id:int:key,qty:int\\n1,5\\n")
+        >>> with table.pin() as pin:
+        ...     with table.begin() as txn:
+        ...         txn.delete(1)
+        ...     with pin.read() as snapshot:
+        ...         print(pin.number, snapshot[:], table.sizes().commits)
+        0 [(1, 5)] 1
+        >>> table.close()
         """
         return Pin(PinHandle(self._handle), self._shaping)
 
@@ -189,30 +352,118 @@ class Table(Single):
         as_types: Optional[Mapping[str, str]] = None,
         batch: int = BATCH,
     ) -> ArrowScan:
-        """The newest table's rows for whatever reads Arrow, as ``Pin.arrow``: the scan has a pin of its own.
+        """Return rows of the newest version for any library that reads Arrow.
 
-        Each stream of the scan reads this version. The table isn't closed while one is open, and ends the scan.
+        The scan has a pin of its own, so that each of its streams reads this version. The table can't be closed while a
+        stream is open, and closing it ends the scan.
+
+        Parameters
+        ----------
+        columns : sequence of str, optional
+            The names of the columns; all of them by default.
+        start : int, optional
+            The position of the first row, from 0.
+        stop : int, optional
+            The position after the last row; the end by default.
+        keys : tuple of two keys, optional
+            The rows from the first key on and below the second, in place of positions. None for a key is no bound.
+        as_types : mapping of str to str, optional
+            Formats for some columns, as ``ArrowScan`` has them.
+        batch : int, optional
+            How many rows a batch has at most.
+
+        Returns
+        -------
+        ArrowScan
+            The scan.
+
+        Raises
+        ------
+        TypeMismatch
+            There is no such column, a format isn't valid for it, a column is named twice, a position is negative,
+            positions and keys are given, or a key doesn't fit the key columns.
+        NoMemory
+            Out of memory. Nothing changed.
+        Misuse
+            The table is closed.
         """
         pin = self.pin()
         asked = Asked(start, stop, keys)
         return ArrowScan(pin._handle, self._shaping, pin._ranks, columns, asked, as_types, batch, pin)
 
     def __arrow_c_stream__(self, requested_schema: Any = None) -> Any:
-        """All rows of the newest table, as a capsule of Arrow's. Each time it is the newest: ``arrow`` keeps one."""
+        """Return all rows of the newest version as an Arrow stream capsule.
+
+        Each call reads the version that is then the newest; ``arrow`` keeps one.
+
+        Parameters
+        ----------
+        requested_schema : capsule, optional
+            A schema, read only for whether texts have offsets of 32 or of 64 bits.
+
+        Returns
+        -------
+        capsule
+            A ``PyCapsule`` named "arrow_array_stream".
+
+        Raises
+        ------
+        NoMemory
+            Out of memory. Nothing changed.
+        Misuse
+            The table is closed.
+        """
         return self.arrow().__arrow_c_stream__(requested_schema)
 
     def __arrow_c_schema__(self) -> Any:
-        """The columns, as a capsule of Arrow's."""
+        """Return the columns as an Arrow schema capsule.
+
+        Returns
+        -------
+        capsule
+            A ``PyCapsule`` named "arrow_schema".
+
+        Raises
+        ------
+        NoMemory
+            Out of memory. Nothing changed.
+        Misuse
+            The table is closed.
+        """
         return self.arrow().__arrow_c_schema__()
 
     def declare(self, column: str, format: Optional[str]) -> None:
-        """Declares what the numbers of an int column stand for, as Arrow spells it: "tdD" are dates, "g" doubles.
+        """Declare what the numbers of an int column mean, as Arrow spells it: "tdD" for dates, "g" for doubles.
 
-        Streams of Arrow's have the column so, and others are refused. In rows and keys its cells are floats ("g"),
-        dates ("tdD"), datetimes ("tsu:", or "tsu:UTC" with a time zone; also "tss:" and "tsm:") or Decimals ("d:15,2"),
-        and with "?" before it None, for which the least int64 stands. Of other formats they stay ints, as they do in
-        batches and spans. No column of the key has nulls. None takes it back. In a database it lasts. It is called
-        while no other thread uses the table. TypeMismatch, FileFailed, Misuse.
+        Streams of Arrow's then have the column in this format, and streams that come in with another meaning are
+        refused. In rows and keys its cells are
+
+        - floats for "g",
+        - dates for "tdD",
+        - datetimes for "tsu:", "tsm:" and "tss:", of UTC with a time zone after the colon, as "tsu:UTC",
+        - Decimals for "d:P,S", as "d:15,2",
+        - also None, with "?" before any format; a key column can't have it. The least int64 is stored for None.
+
+        Cells of other formats stay ints, and so do all cells in batches and spans. In a database the declaration is
+        durable. No other thread may use the table meanwhile.
+
+        Parameters
+        ----------
+        column : str
+            The column's name.
+        format : str or None
+            The format, or None to remove the declaration.
+
+        Raises
+        ------
+        TypeMismatch
+            There is no such column, it isn't an int column, or the format isn't valid for it.
+        FileFailed
+            A file of the database can't be written: ``errno`` has the cause.
+        ReadOnlyDatabase
+            The database was opened read-only.
+        Misuse
+            The table is closed.
         """
         place = self._shaping.column(column)
         with self._handle as at:
@@ -224,46 +475,101 @@ class Table(Single):
 
     @property
     def declared(self) -> Dict[str, str]:
-        """What the numbers of columns stand for, where they are declared, as what came in as dates by Arrow."""
+        """The format of each column that is declared, by its name."""
         with self._handle as at:
             formats = {name: library.pdt_declared(at, place) for place, name in enumerate(self._shaping.names)}
         return {name: format.decode() for name, format in formats.items() if format is not None}
 
     def fold(self) -> None:
-        """Folds the Write-PDT into the Read-PDT, for later commits a smaller tree. No table changes. NoMemory."""
+        """Fold the Write-PDT into the Read-PDT (a delta merge), so that later commits are applied to a small tree.
+
+        No version changes. Commits wait for the time that it takes to merge the entries.
+
+        Raises
+        ------
+        NoMemory
+            Out of memory. Nothing changed.
+        Misuse
+            The table is closed.
+        """
         with self._handle as at:
             check(library.pdt_fold(at))
 
     def trim(self) -> None:
-        """Lets go of what the last commits changed, before there are ``recent`` of them. No table changes. NoMemory.
+        """Free what the last commits changed, before there are ``recent`` of them.
 
-        A transaction that began before the newest commit reads on, and is TooOld at its own commit if it changes
-        something, since nobody can tell any more whether it is in conflict. One that began after that commit, before or
-        after the trim, commits as ever. ``changes`` after an earlier number is NotKept.
+        A transaction that began before the newest commit gets ``TooOld`` if it commits a change, and reads on. One that
+        began after it isn't affected. ``changes`` after an earlier number raises ``NotKept``.
+
+        Raises
+        ------
+        Misuse
+            The table is closed.
         """
         with self._handle as at:
             check(library.pdt_trim(at))
 
     def checkpoint(self, folder: Path) -> None:
-        """Writes the newest table into a folder that has no checkpoint. When it returns, that table is durable.
+        """Write the newest version into a folder that has no checkpoint. When it returns, that version is durable.
 
-        It is what makes commits last: ``recover`` opens what it wrote, and later commits want another checkpoint, into
-        another folder. The folder is there already.
+        ``recover`` opens it again. Later commits need another checkpoint, in another folder.
 
-        Exists, FileFailed, NoMemory: what was written is removed.
+        Parameters
+        ----------
+        folder : str, bytes or os.PathLike
+            A folder that exists.
+
+        Raises
+        ------
+        Exists
+            The folder has a checkpoint, or a part of one.
+        FileFailed
+            A file can't be written or synced, or the folder isn't there: ``errno`` has the cause.
+        WritesFailed
+            A commit of the table's database can't be made durable.
+        NoMemory
+            Out of memory.
+        Misuse
+            The table is closed.
+
+        Notes
+        -----
+        After an exception the files that were written are deleted.
         """
         with self._handle as at:
             check_files(library.pdt_checkpoint(at, folder_of(folder)), folder)
 
     def sizes(self) -> Sizes:
-        """What has grown."""
+        """Report what has grown since the last fold and checkpoint.
+
+        Returns
+        -------
+        Sizes
+            The sizes.
+
+        Raises
+        ------
+        Misuse
+            The table is closed.
+        """
         sizes = SizesOf()
         with self._handle as at:
             check(library.pdt_size(at, byref(sizes)))
         return Sizes(sizes.commits, sizes.write_entries, sizes.read_entries, sizes.open_transactions)
 
     def counts(self) -> Counts:
-        """What it has counted since its opening, and what it keeps now. Commits wait while it looks at what is kept."""
+        """Read the table's counters. Commits wait while it visits the retained commits.
+
+        Returns
+        -------
+        Counts
+            The counters.
+
+        Raises
+        ------
+        Misuse
+            The table is closed.
+        """
         counts = CountsOf(ctypes.sizeof(CountsOf))
         with self._handle as at:
             check(library.pdt_count(at, byref(counts)))
@@ -273,15 +579,44 @@ class Table(Single):
         return Counts(**told)
 
     def changes(self, after: int) -> Iterator[Tuple[int, List[Entry]]]:
-        """What each commit after a number changed, up to the newest one of the call: its number, and its entries.
+        """Return what each commit after a number changed, up to the newest commit of this call.
 
-        ``for number, entries in table.changes(after=n)``: the numbers are n + 1, n + 2 and so on, with none left out.
-        The entries stand over the table before their commit, and make of it the table of their number. A row that was
-        replaced is an insert and a delete of one key: who keeps rows by key does a commit's deletes first. In a
-        database a commit that changed other tables alone has no entries here.
+        ``for number, entries in table.changes(after=n)``: the numbers are n + 1, n + 2 and so on, without a gap. The
+        entries are over the version before their commit, and turn it into the version of their number. A replaced row
+        is an insert and a delete of one key: a follower that keeps rows by key applies the deletes of a commit first.
+        In a database a commit that changed other tables has no entries here.
 
-        NotKept, at the call or at a later step, where the next commit isn't kept: more than ``recent`` came since, or a
-        trim. So is a number above the newest one, which this table never had. NoMemory.
+        Parameters
+        ----------
+        after : int
+            A version's number, as ``Pin.number`` or ``Snapshot.version``.
+
+        Returns
+        -------
+        iterator of tuple of (int, list of Entry)
+            The number of each commit and its entries.
+
+        Raises
+        ------
+        NotKept
+            At the call or at a later step: the next commit isn't retained, since more than ``recent`` commits came
+            since, or a trim. Or ``after`` is above the newest number. Start again from a pin.
+        NoMemory
+            Out of memory.
+        Misuse
+            The table is closed, or ``after`` is negative.
+
+        Examples
+        --------
+        >>> import narthexmace
+        >>> table = narthexmace.open("id:int:key,qty:int\\n1,5\\n")
+        >>> with table.begin() as txn:
+        ...     txn.set(1, "qty", 7)
+        ...     txn.insert((2, 0))
+        >>> for number, entries in table.changes(after=0):
+        ...     print(number, [(entry.kind, entry.values) for entry in entries])
+        1 [('modify', (7,)), ('insert', (2, 0))]
+        >>> table.close()
         """
         number, newest = _number(after), self._newest()
         if number == newest or number > newest and self._handle.has_numbered(number):
@@ -318,9 +653,24 @@ class Table(Single):
         return layer
 
     def wait(self, after: int, seconds: float) -> Optional[int]:
-        """Waits until the newest table has a number above this one, for so many seconds at most.
+        """Block until the newest version has a number above ``after``. Other threads go on meanwhile.
 
-        Answers that table's number, or None where no commit came in that time. Other threads go on meanwhile.
+        Parameters
+        ----------
+        after : int
+            A version's number.
+        seconds : float
+            How long to wait at most.
+
+        Returns
+        -------
+        int or None
+            The newest version's number, or None if there was no commit in that time.
+
+        Raises
+        ------
+        Misuse
+            The table is closed, or ``after`` is negative.
         """
         number, commits, end = _number(after), c_uint64(), time.monotonic() + seconds
         with self._handle as at:
@@ -334,9 +684,21 @@ class Table(Single):
                     return None
 
     def layers(self) -> Iterator[Entry]:
-        """The entries of the newest table's Read-PDT, and then those of its Write-PDT, in order.
+        """Return the entries of the newest version's Read-PDT, and then of its Write-PDT, in order.
 
-        They are of the moment of the call, whatever is done while a loop goes over them. NoMemory.
+        They are as of the call, whatever is committed meanwhile.
+
+        Returns
+        -------
+        iterator of Entry
+            The entries.
+
+        Raises
+        ------
+        NoMemory
+            Out of memory. Nothing changed.
+        Misuse
+            The table is closed.
         """
         read, write = Layer("read", self._shaping), Layer("write", self._shaping)
         with self._handle as at:
@@ -344,14 +706,16 @@ class Table(Single):
         return chain(read, write)
 
     def close(self) -> None:
-        """Closes the table: what no checkpoint has written is gone. Closing again is no error.
+        """Close the table. Commits that no checkpoint has written are lost. Closing again does nothing.
 
-        Snapshots, pins and scans of Arrow's end with it, and raise Misuse then: in a notebook the last result or the last
-        traceback keeps them. Memory that arrays read stays.
+        Snapshots, pins and Arrow scans end with it, and their calls then raise ``Misuse``. Memory that arrays read
+        stays valid.
 
-        Misuse while a transaction or a stream of Arrow's is open, an array is over memory that ``int_spans`` borrowed,
-        or another thread is in a call: it stays open then.
-        Misuse also of a table of a database, which ``Database.close`` closes.
+        Raises
+        ------
+        Misuse
+            A transaction or an Arrow stream is open, an array is over memory that ``int_spans`` returned, or another
+            thread is in a call: the table stays open. Or the table is in a database, which ``Database.close`` closes.
         """
         self._handle.close()
 

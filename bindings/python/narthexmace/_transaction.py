@@ -31,27 +31,51 @@ def check_commit(code: int, number: int) -> None:
 
 
 class Transaction(Snapshot):
-    """A transaction. It sees the table as it was at its begin, and its own writes; others see these once it commits.
+    """A transaction: the version of its begin with its own writes, which a commit makes visible to others.
 
-    One thread at a time: a call while another thread is in one raises Misuse, and so does a call once it is over. With
-    ``with`` it commits at the end of the block, and is aborted at an exception. One that is dropped while it is open is
-    aborted. The rows count from 0 in ascending key. Who only reads takes a ``Snapshot``, of ``Table.read``.
+    One thread at a time uses it: a call while another thread is in one raises ``Misuse``, and so does a call once it is
+    over. With ``with`` it commits at the end of the block, and aborts at an exception. One that is dropped while it is
+    open is aborted. For reads alone use a ``Snapshot``, from ``Table.read``.
     """
 
     __slots__ = ()
 
     def commit(self) -> int:
-        """Commits, and answers the number of the new table.
+        """Commit, and return the number of the new version.
 
-        A transaction that changes nothing takes no number: it ends as by ``abort``, and answers ``version``.
+        A transaction that changes nothing takes no number: it ends as by ``abort``, and returns ``version``. A commit
+        outside a database is in memory until a checkpoint writes it; a commit of a database is as durable as its
+        ``sync`` says.
 
-        What begins later sees the new table. That of a table outside a database is in memory: it lasts once a
-        checkpoint has written it (``Table.checkpoint``), and is lost with the process before. That of a database lasts,
-        as its ``sync`` says. Where this is one table of several (``Database.begin``) the call is Misuse: these are
-        committed at once.
+        Returns
+        -------
+        int
+            The number of the new version.
 
-        Conflict, TooOld and Full end it: begin again, and do the work again. NoMemory and Borrowed leave it open as it
-        was. In a database OutcomeUnknown ends it too, and WritesFailed and TooLong leave it open.
+        Raises
+        ------
+        Conflict
+            A concurrent commit modified the same data. The transaction is over: begin again, and repeat the work.
+        TooOld
+            The changes of a commit since the begin aren't retained any more. The transaction is over: begin again.
+        Full
+            The table would have more rows than ``row_limit``. The transaction is over.
+        OutcomeUnknown
+            In a database: I/O error while the commit was written. The transaction is over; whether it is durable is
+            unknown until the database is reopened.
+        NoMemory
+            Out of memory. The transaction stays open, and may commit again.
+        Borrowed
+            An array or another view is over memory that ``int_spans`` returned. The transaction stays open.
+        WritesFailed
+            In a database: an earlier write failed. The transaction stays open.
+        TooLong
+            In a database: the changes take 4 GiB or more in the journal. The transaction stays open.
+        ReadOnlyDatabase
+            The database was opened read-only. The transaction stays open.
+        Misuse
+            The transaction is over, another thread is in a call of it, or it is part of a database transaction, which
+            commits as a whole.
         """
         number = c_uint64()
         with self._handle:
@@ -86,9 +110,27 @@ class Transaction(Snapshot):
     # ---- writes
 
     def insert(self, row: Union[Sequence[Cell], Mapping[str, Cell]]) -> None:
-        """Inserts a row: its cells in the order of the columns, or by their names.
+        """Insert a row.
 
-        Duplicate, Full, TypeMismatch, Borrowed, NoMemory.
+        Parameters
+        ----------
+        row : sequence of cells, or mapping of str to cell
+            The cells in the order of the columns, or by their names.
+
+        Raises
+        ------
+        Duplicate
+            A row with this key exists.
+        Full
+            The table would have more rows than ``row_limit``.
+        TypeMismatch
+            A cell doesn't fit its column, or there are too few or too many.
+        Borrowed
+            An array or another view is still over memory that ``int_spans`` returned.
+        NoMemory
+            Out of memory. Nothing changed.
+        Misuse
+            The transaction or snapshot is over, or another thread is in a call of it.
         """
         numbers, texts, count = self._shaping.row(row)
         with self._handle as at:
@@ -100,7 +142,26 @@ class Transaction(Snapshot):
             self._writes += 1
 
     def delete(self, key: Key) -> None:
-        """Deletes the row of a key. Missing, TypeMismatch, Borrowed, NoMemory."""
+        """Delete the row of a key.
+
+        Parameters
+        ----------
+        key : cell or sequence of cells
+            The cells of the key columns; the cell itself for a key of one column.
+
+        Raises
+        ------
+        Missing
+            No row has this key.
+        TypeMismatch
+            The key doesn't fit the key columns.
+        Borrowed
+            An array or another view is still over memory that ``int_spans`` returned.
+        NoMemory
+            Out of memory. Nothing changed.
+        Misuse
+            The transaction or snapshot is over, or another thread is in a call of it.
+        """
         numbers, texts, count = self._shaping.key(key)
         with self._handle as at:
             self._handle.take_back()
@@ -108,7 +169,31 @@ class Transaction(Snapshot):
             self._writes += 1
 
     def set(self, key: Key, column: str, value: Cell) -> None:
-        """Sets a cell in the row of a key; the column is none of the key. Missing, TypeMismatch, Borrowed, NoMemory."""
+        """Set one cell of the row of a key.
+
+        Parameters
+        ----------
+        key : cell or sequence of cells
+            The cells of the key columns; the cell itself for a key of one column.
+        column : str
+            The column's name. It isn't a key column.
+        value : cell
+            The value.
+
+        Raises
+        ------
+        Missing
+            No row has this key.
+        TypeMismatch
+            The key doesn't fit the key columns, there is no such column, it is a key column, or the value doesn't fit
+            it.
+        Borrowed
+            An array or another view is still over memory that ``int_spans`` returned.
+        NoMemory
+            Out of memory. Nothing changed.
+        Misuse
+            The transaction or snapshot is over, or another thread is in a call of it.
+        """
         numbers, texts, count = self._shaping.key(key)
         place = self._shaping.column(column)
         if self._shaping.columns[place].key:
@@ -130,23 +215,103 @@ class Transaction(Snapshot):
         return self._shaping.told(key) + ("" if name is None else f" in the table {name!r}")
 
     def insert_many(self, rows: Many) -> int:
-        """Inserts the rows of columns, all of them or none, and answers how many they are.
+        """Insert the rows of columns: all of them, or none.
 
-        Columns are a mapping from names to lists or arrays, a DataFrame, or what has ``__arrow_c_stream__``; they have
-        the names and the types of the table's, in any order. ``row`` of an exception counts from 0.
+        Parameters
+        ----------
+        rows : mapping, DataFrame or object with ``__arrow_c_stream__``
+            Columns with the names and types of the table's, in any order: a mapping from names to lists or arrays, a
+            DataFrame of pandas, or any object that has a stream of Arrow's.
 
-        Duplicate, Full, TypeMismatch, DeviceFailed (a stream that fails), Borrowed, NoMemory: nothing was written.
+        Returns
+        -------
+        int
+            How many rows were inserted.
+
+        Raises
+        ------
+        Duplicate
+            A row with the key of row ``row`` exists; ``row`` counts from 0.
+        Full
+            The table would have more rows than ``row_limit``.
+        TypeMismatch
+            The columns aren't those of the table, or a cell doesn't fit its column: ``row`` and ``column`` have the
+            place.
+        DeviceFailed
+            The stream failed, and the sentence has its message.
+        TooManyRows
+            A batch of the stream has more than 2,147,483,647 rows.
+        Borrowed
+            An array or another view is still over memory that ``int_spans`` returned.
+        NoMemory
+            Out of memory. Nothing changed.
+        Misuse
+            The transaction or snapshot is over, or another thread is in a call of it.
         """
         return self._apply(rows, _INSERT)
 
     def upsert_many(self, rows: Many) -> int:
-        """Inserts the rows of columns; where there is a row of the key its other cells are set. As ``insert_many``."""
+        """Insert the rows of columns, or set all other cells of the rows that have their keys: all of them, or none.
+
+        Parameters
+        ----------
+        rows : mapping, DataFrame or object with ``__arrow_c_stream__``
+            Columns, as ``insert_many`` takes them.
+
+        Returns
+        -------
+        int
+            How many rows were inserted or set.
+
+        Raises
+        ------
+        Full
+            The table would have more rows than ``row_limit``.
+        TypeMismatch
+            The columns aren't those of the table, or a cell doesn't fit its column: ``row`` and ``column`` have the
+            place.
+        DeviceFailed
+            The stream failed, and the sentence has its message.
+        TooManyRows
+            A batch of the stream has more than 2,147,483,647 rows.
+        Borrowed
+            An array or another view is still over memory that ``int_spans`` returned.
+        NoMemory
+            Out of memory. Nothing changed.
+        Misuse
+            The transaction or snapshot is over, or another thread is in a call of it.
+        """
         return self._apply(rows, _UPSERT)
 
     def delete_many(self, keys: Many) -> int:
-        """Deletes the rows of keys, in columns: all of them or none, and answers how many they are.
+        """Delete the rows of keys, in columns: all of them, or none.
 
-        Other columns than those of the key are passed over. Missing, and else as ``insert_many``.
+        Parameters
+        ----------
+        keys : mapping, DataFrame or object with ``__arrow_c_stream__``
+            Columns, as ``insert_many`` takes them. Columns that aren't in the key are ignored.
+
+        Returns
+        -------
+        int
+            How many rows were deleted.
+
+        Raises
+        ------
+        Missing
+            No row has the key of row ``row``, which counts from 0.
+        TypeMismatch
+            A key column is missing, or a cell doesn't fit its column: ``row`` and ``column`` have the place.
+        DeviceFailed
+            The stream failed, and the sentence has its message.
+        TooManyRows
+            A batch of the stream has more than 2,147,483,647 rows.
+        Borrowed
+            An array or another view is still over memory that ``int_spans`` returned.
+        NoMemory
+            Out of memory. Nothing changed.
+        Misuse
+            The transaction or snapshot is over, or another thread is in a call of it.
         """
         return self._apply(keys, _DELETE)
 
@@ -169,11 +334,37 @@ class Transaction(Snapshot):
 
     @contextmanager
     def savepoint(self) -> Iterator[None]:
-        """A block whose writes are undone where an exception leaves it. The exception goes on; the transaction is open.
+        """Open a block whose writes are undone if an exception leaves it: ``with txn.savepoint():``.
 
-        Blocks nest. A scan that began before writes were undone ends with Misuse, as after a write. Where the block
-        itself commits or aborts the transaction, nothing is undone. What ``int_spans`` borrowed may be read on.
-        NoMemory.
+        The exception is raised on, and the transaction stays open. Blocks nest. A scan that began before writes were
+        undone ends with ``Misuse``, as after a write. If the block commits or aborts the transaction, nothing is
+        undone. What ``int_spans`` returned stays valid.
+
+        Yields
+        ------
+        None
+            Nothing.
+
+        Raises
+        ------
+        NoMemory
+            Out of memory. Nothing changed.
+        Misuse
+            The transaction or snapshot is over, or another thread is in a call of it.
+
+        Examples
+        --------
+        >>> import narthexmace
+        >>> table = narthexmace.open("id:int:key,qty:int\\n1,5\\n")
+        >>> with table.begin() as txn:
+        ...     try:
+        ...         with txn.savepoint():
+        ...             txn.set(1, "qty", -1)
+        ...             raise ValueError("sold out")
+        ...     except ValueError:
+        ...         print(txn.get(1))
+        (1, 5)
+        >>> table.close()
         """
         level = c_size_t()
         with self._handle as at:
@@ -195,9 +386,21 @@ class Transaction(Snapshot):
             check(library.pdt_release(at, level))
 
     def layer(self) -> Iterator[Entry]:
-        """The entries of its own writes so far, in order, over the rows of the table that it began on.
+        """Return the entries of its own writes so far, in order, over the rows of the version that it began over.
 
-        They are of the moment of the call: later writes, and its end, change none of them. NoMemory.
+        They are as of the call: later writes don't change them.
+
+        Returns
+        -------
+        iterator of Entry
+            The entries.
+
+        Raises
+        ------
+        NoMemory
+            Out of memory. Nothing changed.
+        Misuse
+            The transaction or snapshot is over, or another thread is in a call of it.
         """
         own = Layer("own", self._shaping)
         with self._handle as at:

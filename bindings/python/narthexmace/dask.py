@@ -1,8 +1,8 @@
-"""A table in key ranges, on the workers of a Dask cluster: past one machine, on an engine that is there.
+"""A table in key ranges on the workers of a Dask cluster, for tables larger than one machine.
 
-Dask runs the workers, starts others where one dies, and carries the calls; nothing here is a transport. Each range is a
-database as ``narthexmace.connect`` opens it, in a folder that all workers share, and one worker at a time owns it. The
-process that opens the table is its coordinator: it gives all commits one order, and has a log of what it decides.
+Dask runs the workers, replaces one that dies, and carries the calls. Each range is a database as
+``narthexmace.connect`` opens it, in a folder that all workers share, and one worker at a time owns it. The process that
+opens the table is its coordinator: it orders all commits, and logs what it decides. For example::
 
     import narthexmace.dask
     from distributed import Client
@@ -16,8 +16,8 @@ process that opens the table is its coordinator: it gives all commits one order,
 
 ``docs/RANGES.md`` has the steps of a commit and what a crash after each leaves. None of it is proved.
 
-Errors: besides those of ``narthexmace``, TimedOut, Gone and LogFailed, whose ``outcome`` says what is known of the
-transaction. No call waits for ever.
+Errors: those of ``narthexmace``, and TimedOut, Gone and LogFailed, whose ``outcome`` says what is known of the
+transaction. Every call has a time limit.
 """
 from __future__ import annotations
 

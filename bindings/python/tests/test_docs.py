@@ -2,6 +2,8 @@
 import doctest
 import os
 import re
+import subprocess
+import sys
 import tempfile
 import unittest
 from pathlib import Path
@@ -46,7 +48,22 @@ class Documents(unittest.TestCase):
             narthexmace.Database.close, narthexmace.DatabaseTransaction.commit, narthexmace.Transaction.commit,
             narthexmace.Table,
         ):  # fmt: skip
-            self.assertRegex(thing.__doc__ or "", r"\bdevice|\blasts?\b|survives", thing)
+            self.assertRegex(thing.__doc__ or "", r"\bdurable\b|\bdevice\b|\bsurvives?\b", thing)
+
+    def test_the_documentation_needs_no_library(self) -> None:
+        asks = "import narthexmace\ntry: narthexmace.version()\nexcept ImportError as why: print(why)"
+        words = {"NARTHEXMACE_WITHOUT_LIBRARY": "1", "PYTHONPATH": str(TOP / "bindings/python")}
+        said = subprocess.run([sys.executable, "-c", asks], env={**os.environ, **words}, capture_output=True, text=True)
+        self.assertEqual((said.returncode, said.stderr), (0, ""))
+        self.assertRegex(said.stdout, "NARTHEXMACE_WITHOUT_LIBRARY is set.* pdt_version")
+
+    def test_the_docstrings(self) -> None:
+        modules = [module for name, module in sorted(sys.modules.items()) if name.startswith("narthexmace.")]
+        examples = {it.name: it.docstring for module in modules for it in doctest.DocTestFinder().find(module) if it.examples}
+        for name, docstring in examples.items():
+            with self.subTest(name=name):
+                self.assertGreater(self.run_examples(name, docstring), 1)
+        self.assertGreater(len(examples), 4)
 
     def test_the_package(self) -> None:
         self.assertGreater(self.run_examples("narthexmace", narthexmace.__doc__ or ""), 3)

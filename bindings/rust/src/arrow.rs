@@ -29,8 +29,8 @@ pub struct ArrowSchema {
     private_data: *mut c_void,
 }
 
-/// `struct ArrowArray`: the cells of a batch. It is released when it is dropped, and else stays whatever becomes of its
-/// stream and of the table.
+/// `struct ArrowArray`: the cells of a batch. It is released when it is dropped, and stays valid whatever becomes of
+/// its stream and of the table.
 #[repr(C)]
 #[derive(Debug)]
 pub struct ArrowArray {
@@ -180,7 +180,11 @@ impl ArrowArrayStream {
         unsafe { ptr::replace(at, ArrowArrayStream::empty()) }
     }
 
-    /// What the batches are. [`ArrowError`], also of a stream that is released.
+    /// The schema of the batches.
+    ///
+    /// # Errors
+    ///
+    /// [`ArrowError`]: the stream failed, or is released.
     pub fn schema(&mut self) -> Result<ArrowSchema, ArrowError> {
         // SAFETY: all zeros is a schema that is released.
         let mut schema: ArrowSchema = unsafe { zeroed() };
@@ -190,7 +194,12 @@ impl ArrowArrayStream {
         self.answered(code).map(|()| schema)
     }
 
-    /// The next batch, or none after the last. [`ArrowError`], also of a stream that is released.
+    /// The next batch, or `None` after the last.
+    ///
+    /// # Errors
+    ///
+    /// [`ArrowError`]: the stream failed, or is released. A stream of this crate fails with `ENOMEM` if out of memory,
+    /// and may be asked again; with `EINVAL` for a number that the requested format can't hold.
     pub fn next_batch(&mut self) -> Result<Option<ArrowArray>, ArrowError> {
         // SAFETY: all zeros is an array that is released.
         let mut array: ArrowArray = unsafe { zeroed() };
@@ -243,9 +252,14 @@ fn passed(columns: &[ArrowColumn<'_>]) -> *const ArrowColumn<'static> {
 }
 
 impl Pin<'_> {
-    /// Its rows between two positions, in batches of so many, or of 65,536 where that is 0. All columns go out where none
-    /// is named. Any threads have streams of one pin at once. [`Error::TypeMismatch`] of a column that isn't there, or
-    /// doesn't go out so; [`Error::NoMemory`].
+    /// Its rows between two positions as a stream, in batches of `batch` rows, or of 65,536 for 0. All columns go out
+    /// if none is named. The batches are read as they are asked for. Several threads may have streams of one pin at
+    /// once.
+    ///
+    /// # Errors
+    ///
+    /// - [`Error::TypeMismatch`]: there is no such column, or the format isn't valid for it.
+    /// - [`Error::NoMemory`]: out of memory; nothing changed.
     pub fn arrow(
         &self,
         columns: &[ArrowColumn<'_>],
@@ -262,8 +276,13 @@ impl Pin<'_> {
 }
 
 impl<E: Ending> Transaction<'_, E> {
-    /// What it sees between two positions, with its own writes, as [`Pin::arrow`]: all of it is copied by this call, so
-    /// that the transaction may be written and ended before the stream is read.
+    /// The rows that it sees between two positions, with its own writes, as a stream. All of them are copied by this
+    /// call, so that the transaction may be written and ended before the stream is read. Else as [`Pin::arrow`].
+    ///
+    /// # Errors
+    ///
+    /// - [`Error::TypeMismatch`]: there is no such column, or the format isn't valid for it.
+    /// - [`Error::NoMemory`]: out of memory; nothing changed.
     pub fn arrow(
         &self,
         columns: &[ArrowColumn<'_>],
@@ -278,8 +297,19 @@ impl<E: Ending> Transaction<'_, E> {
         Ok(stream)
     }
 
-    /// Applies the rows of a stream, all of them or none, and answers how many they are. Its columns have the names of the
-    /// table's, in any order; for a delete those of the key are enough. [`ArrowRefusal`].
+    /// Applies the rows of a stream, all of them or none, and returns how many there are. Its columns are matched by
+    /// name, in any order; for a delete the key columns are enough. The stream is released.
+    ///
+    /// # Errors
+    ///
+    /// [`ArrowRefusal`] has the row and the column. Nothing was written.
+    ///
+    /// - [`Error::Duplicate`], [`Error::Missing`], [`Error::Full`]: as of the insert or the delete of that row.
+    /// - [`Error::TypeMismatch`]: the columns aren't those of the table, or a cell doesn't fit its column.
+    /// - [`Error::DeviceFailed`]: the stream failed, and the cause has its message.
+    /// - [`Error::TooManyRows`]: a batch has more than 2,147,483,647 rows.
+    /// - [`Error::NoMemory`]: out of memory, here or in the stream.
+    /// - [`Error::Misuse`]: the stream is released already.
     pub fn apply_arrow(&mut self, mut stream: ArrowArrayStream, what: Apply) -> Result<u64, ArrowRefusal> {
         let (mut fault, mut rows) = (ffi::ArrowFault::default(), 0);
         // SAFETY: the transaction is open, and nobody reads it meanwhile; the call releases the stream.
@@ -302,13 +332,13 @@ pub enum Apply {
 /// Why a stream's rows weren't taken. Nothing has changed.
 #[derive(Clone, Debug, PartialEq, Eq)]
 pub struct ArrowRefusal {
-    /// What kind of thing it is.
+    /// The error.
     pub error: Error,
-    /// The row, which counts from 0 over all batches; 0 where none is meant.
+    /// The row, from 0 over all batches; 0 if there is no place.
     pub row: u64,
-    /// The column, which counts from 0 in the stream; 0 where none is meant.
+    /// The column, from 0 in the stream; 0 if there is no place.
     pub column: u64,
-    /// A sentence in English; empty where the error says all, and where there is no memory for one.
+    /// A sentence in English; empty if the error says everything, and if there is no memory for one.
     pub cause: String,
 }
 
@@ -356,8 +386,21 @@ fn within(positions: impl RangeBounds<u64>) -> (u64, u64) {
 const FORMAT_BYTES: usize = 64;
 
 impl Table {
-    /// Opens a table over the rows of a stream, in any order. The columns of these names are the key; the others come
-    /// after them. [`ArrowRefusal`].
+    /// Opens a table over the rows of a stream, in any order. The columns of these names are the key; the others
+    /// follow. Doubles, dates, times, durations and decimals are [declared](Table::declare) as what they are. The
+    /// stream is released.
+    ///
+    /// # Errors
+    ///
+    /// [`ArrowRefusal`] has the row and the column.
+    ///
+    /// - [`Error::TypeMismatch`]: a value or a format that its column can't hold, or a null where there is none.
+    /// - [`Error::Duplicate`]: two rows have one key.
+    /// - [`Error::BadTable`]: a name or the key isn't valid.
+    /// - [`Error::DeviceFailed`]: the stream failed, and the cause has its message.
+    /// - [`Error::TooManyRows`], [`Error::BadLimit`]: as of [`Table::open`].
+    /// - [`Error::NoMemory`]: out of memory, here or in the stream.
+    /// - [`Error::Misuse`]: the stream is released already.
     pub fn open_arrow(mut stream: ArrowArrayStream, key: &[&str], options: &Options) -> Result<Table, ArrowRefusal> {
         let options = options.passed()?;
         let raw = open(key, |names, fault, raw| {
@@ -368,17 +411,29 @@ impl Table {
         Ok(unsafe { Table::adopt(raw) }?)
     }
 
-    /// Declares what the numbers of an int column stand for, as Arrow's C data interface spells it: `c"tdD"` are dates,
-    /// `c"g"` doubles, and after `?` the least number is a null. Streams have the column so; all else has the same
-    /// numbers. None takes it back. Other threads may use the table meanwhile: a stream that has begun goes out as
-    /// before. [`Error::TypeMismatch`]; of a table of a database also [`Error::Io`] and [`Error::ReadOnly`].
+    /// Declares what the numbers of an int column mean, as Arrow's C data interface spells it: `c"tdD"` for dates,
+    /// `c"g"` for doubles, and with `?` before it the least number is a null. Streams then use this format; all other
+    /// calls return the same numbers. `None` removes the declaration. Other threads may use the table meanwhile: a
+    /// stream that has begun keeps its format. In a database the declaration is durable when this returns.
+    ///
+    /// # Errors
+    ///
+    /// - [`Error::TypeMismatch`]: there is no such column, it isn't an int column, or the format isn't valid for it.
+    /// - [`Error::Io`]: a file of the database can't be written or synced.
+    /// - [`Error::ReadOnly`]: the database was opened read-only.
+    /// - [`Error::Misuse`]: this thread holds a prepared commit of the table's database.
     pub fn declare(&self, column: usize, format: Option<&CStr>) -> Result<(), Error> {
         // SAFETY: the table is open, and the library lets other threads use it; the format ends with a zero.
         done(unsafe { ffi::pdt_declare(self.as_raw(), column, format.map_or(ptr::null(), CStr::as_ptr)) })
     }
 
-    /// What a column is declared as, if it is: so is what came in by Arrow as doubles, dates, times or decimals.
-    /// [`Error::NoMemory`].
+    /// The declared format of a column, or `None`. What came in by Arrow as doubles, dates, times or decimals is
+    /// declared.
+    ///
+    /// # Errors
+    ///
+    /// - [`Error::TypeMismatch`]: there is no such column.
+    /// - [`Error::NoMemory`]: out of memory.
     pub fn declared(&self, column: usize) -> Result<Option<String>, Error> {
         let mut format = [0; FORMAT_BYTES];
         // SAFETY: the table is open, and there is as much room as is said.

@@ -12,8 +12,8 @@ const PIECES: usize = 128;
 
 /// The cells of chosen columns between two positions.
 ///
-/// Numbers are borrowed where they lie, as long as the transaction is borrowed: no write, commit or abort of it
-/// compiles while a batch is there. Texts and booleans are copied.
+/// Ints are borrowed where they are (zero-copy), for as long as the transaction is borrowed: no write, commit or abort
+/// of it compiles while a batch is there. Texts and booleans are copied.
 ///
 /// ```
 /// use narthexmace::{Error, Options, Table};
@@ -100,17 +100,17 @@ impl<'t> Batch<'t> {
     }
 }
 
-/// Numbers that are together in a column.
+/// A contiguous run of ints in a column.
 #[derive(Clone, Copy, Debug)]
 pub enum IntSpan<'t> {
-    /// Numbers of the stable table, where they lie.
+    /// Values of the stable table, where they are.
     Stable(&'t [i64]),
-    /// The number of a row that was inserted or changed.
+    /// The value of a row that was inserted or changed.
     Changed(i64),
 }
 
 impl IntSpan<'_> {
-    /// The numbers: one, or as many as lie together.
+    /// The values.
     pub fn as_slice(&self) -> &[i64] {
         match self {
             IntSpan::Stable(numbers) => numbers,
@@ -119,19 +119,19 @@ impl IntSpan<'_> {
     }
 }
 
-/// The numbers of a column of a batch, by spans: where few rows have changed a span has up to 1,024.
+/// The ints of a column of a batch, as runs: a run has up to 1,024 values, fewer where rows have changed.
 #[derive(Clone, Debug)]
 pub struct Ints<'t> {
     spans: Vec<IntSpan<'t>>,
 }
 
 impl<'t> Ints<'t> {
-    /// The spans, in order.
+    /// The runs, in order.
     pub fn int_spans(&self) -> &[IntSpan<'t>] {
         &self.spans
     }
 
-    /// The numbers, one by one.
+    /// The values, one by one.
     pub fn iter(&self) -> impl Iterator<Item = i64> {
         self.spans.iter().flat_map(|span| span.as_slice().iter().copied())
     }
@@ -178,8 +178,7 @@ pub struct Texts {
 }
 
 impl Texts {
-    /// Where each text begins in [`as_str`](Texts::as_str), and at the end where the last one ends: one more than there
-    /// are texts.
+    /// Where each text begins in [`as_str`](Texts::as_str), and where the last one ends: one more than there are texts.
     pub fn offsets(&self) -> &[usize] {
         &self.offsets
     }
@@ -277,7 +276,7 @@ fn read_cells(txn: &Open<'_>, column: usize, from: u64, numbers: &mut [i64], tex
     Ok(read)
 }
 
-/// The batches of a range of positions, in order. After one that was refused none comes.
+/// The batches of a range of positions, in order. After an error none comes.
 #[must_use = "batches are read as they are asked for"]
 #[derive(Debug)]
 pub struct Batches<'t> {

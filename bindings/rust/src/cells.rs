@@ -4,7 +4,7 @@ use crate::{Error, ffi};
 use std::ffi::c_void;
 use std::ops::Deref;
 
-/// A cell of a row. Cells are ordered as those of keys are: numbers by size, texts by their bytes, false before true.
+/// A cell of a row. Cells are ordered as in keys: ints by value, texts by their bytes, false before true.
 #[derive(Clone, Debug, PartialEq, Eq, PartialOrd, Ord, Hash)]
 pub enum Cell {
     /// A number.

@@ -9,15 +9,15 @@ use std::iter::FusedIterator;
 use std::ptr::{self, NonNull};
 use std::time::Duration;
 
-/// What an entry does to the table below its layer.
+/// What an entry does to the rows below its layer.
 #[derive(Clone, Debug, PartialEq, Eq, Hash)]
 #[non_exhaustive]
 pub enum Change {
-    /// It inserts this row.
+    /// Inserts this row.
     Insert(Row),
-    /// It deletes the row of this key.
+    /// Deletes the row of this key.
     Delete(Vec<Cell>),
-    /// It sets a cell of a row.
+    /// Sets a cell of a row.
     Modify {
         /// The column of the cell.
         column: usize,
@@ -29,19 +29,19 @@ pub enum Change {
 /// An entry of a layer. Positions count from 0.
 #[derive(Clone, Debug, PartialEq, Eq, Hash)]
 pub struct Entry {
-    /// Where it stands among the rows below the layer.
+    /// Its position among the rows below the layer.
     pub sid: u64,
-    /// Where its row is among those above the layer; of a delete, where it would be.
+    /// The position of its row among the rows above the layer; for a delete, where the row would be.
     pub rid: u64,
     /// What it does.
     pub change: Change,
 }
 
-/// The entries of a commit as they stood when they were asked for: nothing that is done later changes them. It may outlive
-/// its table. It may be sent to another thread, and is used by one at a time.
+/// The entries of a commit as of the call, which nothing changes any more. It may outlive its table. It may be sent to
+/// another thread; one thread at a time uses it.
 ///
-/// Entries are in the order of their SIDs. Who takes them one after the other, each at its RID, makes the table after the
-/// commit of the one before.
+/// Entries are in the order of their SIDs. Applied in this order, each at its RID, they turn the rows of the version
+/// before the commit into those of its own version.
 ///
 /// ```
 /// use narthexmace::{Cell, Change, Error, Options, Table};
@@ -91,13 +91,16 @@ impl Layer {
         unsafe { ffi::pdt_layer_size(self.raw.as_ptr()) }
     }
 
-    /// Whether there are none.
+    /// Whether there is no entry.
     pub fn is_empty(&self) -> bool {
         self.len() == 0
     }
 
-    /// The entry at an index, which counts from 0 in the order of the SIDs, or none past the end. In logarithmic time.
-    /// [`Error::NoMemory`].
+    /// The entry at an index, from 0 in the order of the SIDs, or `None` past the end. In logarithmic time.
+    ///
+    /// # Errors
+    ///
+    /// - [`Error::NoMemory`]: out of memory; nothing changed.
     pub fn entry(&self, index: usize) -> Result<Option<Entry>, Error> {
         let mut numbers = [0; ffi::MAX_COLUMNS];
         let mut first = [0u8; TEXT_ROOM];
@@ -158,8 +161,7 @@ impl fmt::Debug for Layer {
     }
 }
 
-/// The entries of a layer, in the order of their SIDs. One that was refused ([`Error::NoMemory`]) comes again when it is
-/// asked for again.
+/// The entries of a layer, in the order of their SIDs. After [`Error::NoMemory`] the same entry comes again.
 #[derive(Debug)]
 pub struct Entries<'l> {
     layer: &'l Layer,
@@ -182,7 +184,7 @@ impl Iterator for Entries<'_> {
 
 impl FusedIterator for Entries<'_> {}
 
-/// What the commits after a number changed, one after the other: see [`Table::changes_after`].
+/// What each commit after a number changed: see [`Table::changes_after`].
 #[derive(Debug)]
 pub struct Changes<'s> {
     table: &'s Table,
@@ -207,11 +209,14 @@ impl Iterator for Changes<'_> {
 impl FusedIterator for Changes<'_> {}
 
 impl Table {
-    /// What the commit of a number changed: its entries over the table of the number before. `None` where it isn't one of
-    /// the last [`Options::recent`](crate::Options::recent) commits, came before the last [`trim`](Table::trim), or
-    /// hasn't come yet. Takes memory for each entry, and copies no row; commits wait for it.
+    /// What a commit changed: its entries over the version before it. `None` if it isn't one of the last
+    /// [`Options::recent`](crate::Options::recent) commits, came before the last [`trim`](Table::trim), or hasn't taken
+    /// place. Takes memory for each entry and copies no row. Commits wait for the time of the copy.
     ///
-    /// [`Error::NoMemory`]; [`Error::Misuse`] where this thread has a commit of the table prepared.
+    /// # Errors
+    ///
+    /// - [`Error::NoMemory`]: out of memory; nothing changed.
+    /// - [`Error::Misuse`]: this thread holds a prepared commit of the table.
     pub fn changes(&self, number: u64) -> Result<Option<Layer>, Error> {
         let mut raw = ptr::null_mut();
         // SAFETY: the table is open while `self` is there.
@@ -226,12 +231,13 @@ impl Table {
         }
     }
 
-    /// What each commit after a number changed, with its own number, up to the newest commit when this is called. There
-    /// is none where no commit came after.
+    /// What each commit after a number changed, with its number, up to the newest commit of this call (change data
+    /// capture).
     ///
-    /// None is passed over: where the next one isn't kept any more, [`Error::Missing`] comes in its place, and nothing
-    /// after it. The table is read anew then, of a [`pin`](Table::pin), and followed from its number on. Nothing comes
-    /// after [`Error::NoMemory`] and [`Error::Misuse`] either; who has handled all before may ask again from there.
+    /// There is never a gap: if the next commit isn't retained any more, [`Error::Missing`] comes in its place, and
+    /// nothing after it. A follower then reads the rows of a [`pin`](Table::pin), and goes on from its number. Nothing
+    /// comes after [`Error::NoMemory`] and [`Error::Misuse`] either; a follower may ask again from the last number that
+    /// it has handled.
     ///
     /// ```
     /// use narthexmace::{Error, Options, Table};
@@ -254,9 +260,9 @@ impl Table {
         Changes { table: self, at: number, to: self.wait(number, Duration::ZERO).unwrap_or(number) }
     }
 
-    /// Waits until the newest table has a number above this one, for so long at most, and answers that number; `None`
-    /// where none came in that time. It takes no lock that a commit, a fold or a checkpoint keeps. Times count in
-    /// milliseconds, and a part of one counts as a whole.
+    /// Blocks until the newest version has a number above `after`, and returns that number; `None` if there was no
+    /// commit in `time`. It takes no lock that a commit, a fold or a checkpoint holds. Times are rounded up to
+    /// milliseconds.
     ///
     /// ```
     /// use narthexmace::{Error, Options, Table};

@@ -7,8 +7,8 @@ use std::fmt;
 use std::path::Path;
 use std::ptr::{self, NonNull};
 
-/// A checkpoint that has begun: the table as it was then. Commits wait neither for the making of its table nor for its
-/// files. It may be sent to another thread, and ends when it is dropped; what it wrote stays.
+/// A checkpoint that has begun: the version of the begin. Others commit while its table is made and written. It may be
+/// sent to another thread, and ends when it is dropped; what it wrote stays.
 ///
 /// ```no_run
 /// use narthexmace::{Error, Options, Table};
@@ -38,7 +38,7 @@ impl<'s> Checkpoint<'s> {
         Checkpoint { raw, number, table }
     }
 
-    /// The number of its table: what a program has logged of later commits has to stay.
+    /// The number of its version. A program's log of later commits must stay.
     pub fn number(&self) -> u64 {
         self.number
     }
@@ -48,19 +48,31 @@ impl<'s> Checkpoint<'s> {
         &self.table
     }
 
-    /// Writes its table into a folder, as [`Table::checkpoint`] does. Once it answers `Ok` the table is durable.
+    /// Writes its version into a folder, as [`Table::checkpoint`] does. After `Ok` it is durable.
     ///
-    /// [`Error::Exists`], [`Error::Io`], [`Error::NoMemory`]: what was written is removed, and it may be called again;
-    /// [`Error::Misuse`] once it is done, and of a path that no file can have.
+    /// # Errors
+    ///
+    /// - [`Error::Exists`]: the folder has a checkpoint, or a part of one.
+    /// - [`Error::Io`]: a file can't be written or synced, or the folder isn't there or may not be read.
+    /// - [`Error::WritesFailed`]: a commit of the table's database can't be made durable.
+    /// - [`Error::NoMemory`]: out of memory.
+    /// - [`Error::Misuse`]: it is written already, or the path is empty, too long or has a zero byte.
+    ///
+    /// After an error the files that were written are deleted, and it may be called again, unless it was written
+    /// already.
     pub fn write(&mut self, folder: impl AsRef<Path>) -> Result<(), Error> {
         let folder = path_of(folder.as_ref())?;
         // SAFETY: the checkpoint has not ended; the path ends with a zero, and is there during the call.
         done(unsafe { ffi::pdt_checkpoint_write(self.raw.as_ptr(), folder.as_ptr()) })
     }
 
-    /// Begins a transaction over its table, whatever was committed since, as [`Pin::begin`](crate::Pin::begin) does. Before the install
-    /// its row runs are over the stable table that the checkpoint replaces: who has a column in files of its own writes
-    /// the next one by them. [`Error::NoMemory`].
+    /// Begins a transaction over its version, whatever was committed since, as [`Pin::begin`](crate::Pin::begin) does.
+    /// Before the install its row runs are over the stable table that the checkpoint replaces: a program with a column
+    /// in files of its own writes the next file by them.
+    ///
+    /// # Errors
+    ///
+    /// - [`Error::NoMemory`]: out of memory; nothing changed.
     pub fn begin(&mut self) -> Result<Transaction<'s>, Error> {
         let mut raw = ptr::null_mut();
         // SAFETY: the checkpoint has not ended, and its table is kept, and so is open.
@@ -71,11 +83,14 @@ impl<'s> Checkpoint<'s> {
     }
 
     /// Makes what was written the stable table in memory. The commits since the begin stay in the Write-PDT, and no
-    /// table changes; commits wait for a handful of allocations.
+    /// version changes. Commits wait for a handful of allocations.
     ///
-    /// [`Error::Superseded`] where a fold or another checkpoint came since the begin: what was written stays good.
-    /// [`Error::NoMemory`]: it may be called again. [`Error::Misuse`] before [`write`](Checkpoint::write) is done, and
-    /// once this is.
+    /// # Errors
+    ///
+    /// - [`Error::Superseded`]: a fold or another checkpoint came since the begin. What was written stays valid.
+    /// - [`Error::NoMemory`]: out of memory; it may be called again.
+    /// - [`Error::Misuse`]: it isn't written, or is installed already, or this thread holds a prepared commit of the
+    ///   table.
     pub fn install(&mut self) -> Result<(), Error> {
         // SAFETY: the checkpoint has not ended, and its table is open, since it is kept.
         done(unsafe { ffi::pdt_checkpoint_install(self.raw.as_ptr()) })

@@ -7,7 +7,7 @@ use std::fmt;
 use std::panic::{AssertUnwindSafe, catch_unwind, resume_unwind};
 use std::ptr;
 
-/// The values of a column that is handed over, one for each row.
+/// The values of a column in the caller's memory, one for each row.
 #[derive(Clone, Copy, Debug)]
 pub enum ColumnValues<'a> {
     /// Numbers.
@@ -21,8 +21,9 @@ pub enum ColumnValues<'a> {
     },
     /// Booleans.
     Bools(&'a [bool]),
-    /// Values that stay with the caller, of a column that is none of the key: 0, a text of no bytes or false stands for each until a
-    /// transaction sets it. [`Transaction::row_runs`](crate::Transaction::row_runs) says where the rows are.
+    /// Values that stay with the caller, of a column that isn't a key column: its rows read as 0, an empty text or
+    /// false until a transaction sets them. [`Transaction::row_runs`](crate::Transaction::row_runs) reports where the
+    /// rows are.
     Outside {
         /// Their type.
         column_type: ColumnType,
@@ -116,24 +117,25 @@ impl<'a> Passed<'a> {
     }
 }
 
-/// Why columns make no table. Rows and columns count from 0.
+/// Why columns don't make a table. Rows and columns count from 0.
 #[derive(Clone, Copy, Debug, PartialEq, Eq)]
 pub enum ColumnsError {
-    /// The value at this row of this column is none of its type, or the column ends before that row, or goes on past
-    /// the first column: a text has offsets that descend or pass the bytes, is no UTF-8, or has more than 4,096 bytes.
+    /// The value at this row isn't one of its column's type: a text has offsets that descend or pass the bytes, isn't
+    /// UTF-8, or has more than 4,096 bytes. Or the column has no value for this row, or values beyond the rows of the
+    /// first column.
     Value {
         /// The first such row of the column.
         row: u64,
         /// The first such column.
         column: u64,
     },
-    /// The key of this row isn't above that of the row before it.
+    /// The key of this row isn't above the key of the row before it.
     NotAscending {
         /// The first such row.
         row: u64,
     },
-    /// [`Error::BadTable`]: the names, the types and the key make no columns; [`Error::TooManyRows`],
-    /// [`Error::BadLimit`], [`Error::NoMemory`]; [`Error::Misuse`] of a table of a database whose values stay with the caller.
+    /// [`Error::BadTable`]: the names, the types and the key don't make columns. [`Error::TooManyRows`],
+    /// [`Error::BadLimit`], [`Error::NoMemory`]. [`Error::Misuse`]: values of a database's table stay with the caller.
     Other(Error),
 }
 
@@ -166,22 +168,22 @@ impl fmt::Display for ColumnsError {
 
 impl std::error::Error for ColumnsError {}
 
-/// Which bytes of an image these are.
+/// A part of a checkpoint.
 #[derive(Clone, Copy, Debug, PartialEq, Eq, Hash)]
 pub enum CheckpointPart {
-    /// Those of the header, which come first.
+    /// The header, which comes first.
     Header,
-    /// Those of a column, the first being number 0.
+    /// A column, from 0.
     Column(usize),
 }
 
-/// Why a checkpoint's bytes were not all handed out.
+/// Why a checkpoint's bytes weren't all passed on.
 #[derive(Debug)]
 pub enum CheckpointError<E> {
-    /// What took the bytes failed so at this part; nothing was asked of it after that.
+    /// The function returned this error for this part. It wasn't called again.
     Write(CheckpointPart, E),
-    /// [`Error::NoMemory`], or [`Error::Misuse`] of a thread that has a commit of the table prepared: nothing was
-    /// handed out.
+    /// [`Error::NoMemory`], [`Error::WritesFailed`], or [`Error::Misuse`] if this thread holds a prepared commit of the
+    /// table.
     Other(Error),
 }
 
@@ -227,7 +229,14 @@ unsafe extern "C" fn take_bytes<E>(context: *mut c_void, column: usize, bytes: *
 
 impl Table {
     /// Opens a table over columns, the first `key` of which are the key, with their rows in ascending key. The values
-    /// are copied into the table, and no row is made.
+    /// are copied and checked column by column, the keys last.
+    ///
+    /// # Errors
+    ///
+    /// - [`ColumnsError::Value`]: a value isn't one of its type, or the columns have different numbers of rows.
+    /// - [`ColumnsError::NotAscending`]: a row's key isn't above the key of the row before it.
+    /// - [`ColumnsError::Other`]: [`Error::BadTable`] for a name, a type or a key that isn't valid,
+    ///   [`Error::TooManyRows`], [`Error::BadLimit`] or [`Error::NoMemory`].
     ///
     /// ```
     /// use narthexmace::{ColumnValues, ColumnsError, Options, Table};
@@ -253,11 +262,17 @@ impl Table {
         Ok(unsafe { Table::adopt(raw) }?)
     }
 
-    /// Opens a table over an image that [`checkpoint_to`](Table::checkpoint_to) handed out: the bytes of its header,
-    /// and of its columns.
+    /// Opens a table over the bytes of a checkpoint, which [`checkpoint_to`](Table::checkpoint_to) passed on: those of
+    /// its header, and of its columns.
     ///
-    /// [`Error::BadTable`] (the header), [`Error::BadCheckpoint`], [`Error::NoCheckpoint`], [`Error::TooManyRows`],
-    /// [`Error::BadLimit`], [`Error::NoMemory`].
+    /// # Errors
+    ///
+    /// - [`Error::BadTable`]: the header doesn't describe columns.
+    /// - [`Error::BadCheckpoint`]: a column's bytes can't be read as one, or there are too few or too many columns.
+    /// - [`Error::NoCheckpoint`]: the bytes contain no complete checkpoint.
+    /// - [`Error::TooManyRows`]: more rows than [`Options::row_limit`].
+    /// - [`Error::BadLimit`]: an option is outside its range.
+    /// - [`Error::NoMemory`]: out of memory.
     pub fn recover_from(header: &[u8], columns: &[&[u8]], options: &Options) -> Result<Table, Error> {
         let options = options.passed()?;
         let mut passed = Vec::new();
@@ -280,9 +295,15 @@ impl Table {
         unsafe { Table::adopt(raw) }
     }
 
-    /// Hands the bytes that store the newest table to `write`, in order: those of the header, then of each column. In
-    /// memory it is the stable table then. Who takes the bytes makes them durable. Begins and commits wait only while
-    /// they are made, and `write` may itself make calls on the table. A panic of `write` goes on from here.
+    /// Passes the bytes of a checkpoint of the newest version to `write`: those of the header, then of each column. In
+    /// memory it is the stable table then. The caller makes the bytes durable. Commits wait for two folds, and not for
+    /// `write`, which may call on the table. A panic of `write` is resumed here.
+    ///
+    /// # Errors
+    ///
+    /// - [`CheckpointError::Write`]: `write` returned an error for this part; it isn't called again.
+    /// - [`CheckpointError::Other`]: [`Error::NoMemory`], or [`Error::Misuse`] if this thread holds a prepared commit
+    ///   of the table.
     ///
     /// ```
     /// use narthexmace::{CheckpointPart, Options, Table};

@@ -2,37 +2,37 @@
 use crate::ffi;
 use std::time::Duration;
 
-/// What a table has counted since its opening, and what it keeps now: see [`Table::counts`](crate::Table::counts).
+/// A table's counters since its opening, and what it retains now: see [`Table::counts`](crate::Table::counts).
 #[derive(Clone, Copy, Debug, PartialEq, Eq)]
 #[non_exhaustive]
 pub struct Counts {
-    /// Transactions that have begun.
+    /// Transactions begun.
     pub begins: u64,
-    /// Those that were committed, and changed something.
+    /// Transactions committed that changed something.
     pub commits: u64,
-    /// Those that ended by [`Conflict`](crate::CommitError::Conflict).
+    /// Commits refused with [`Conflict`](crate::CommitError::Conflict).
     pub conflicts: u64,
-    /// Those that ended by [`TooOld`](crate::CommitError::TooOld).
+    /// Commits refused with [`TooOld`](crate::CommitError::TooOld).
     pub too_old: u64,
-    /// Those that ended by [`Full`](crate::CommitError::Full).
+    /// Commits refused with [`Full`](crate::CommitError::Full).
     pub full: u64,
-    /// Folds that were asked for.
+    /// Folds by [`Table::fold`](crate::Table::fold).
     pub folds: u64,
-    /// Checkpoints that were installed.
+    /// Checkpoints installed.
     pub checkpoints: u64,
-    /// Checkpoints that something else came before.
+    /// Checkpoints refused with [`Error::Superseded`](crate::Error::Superseded).
     pub superseded: u64,
-    /// Pins that are kept now.
+    /// Pins that are open now.
     pub pins: usize,
-    /// The number of the oldest one's table, where there is one.
+    /// The version of the oldest of them.
     pub oldest_pin: Option<u64>,
-    /// Of how many of the last commits the changes are kept now.
+    /// Commits whose changes are retained now.
     pub kept: usize,
-    /// How many entries these changes have.
+    /// Entries of these changes.
     pub kept_entries: u64,
-    /// How often a thread found the table's lock taken.
+    /// How often a thread waited for the table's lock.
     pub waits: u64,
-    /// The longest time that the lock was held.
+    /// The longest time that a call held the table's lock.
     pub longest_hold: Duration,
     /// How often a fold packed the Read-PDT for scans.
     pub packs: u64,

@@ -17,15 +17,15 @@ use std::path::Path;
 use std::ptr::{self, NonNull};
 use std::sync::{Arc, Mutex, MutexGuard, PoisonError};
 
-/// A folder of tables that last. What was committed on one of them, or on several by a [`DatabaseTransaction`], is
-/// there when the folder is opened again, whatever ended the process, or the machine. All tables have one numbering of
-/// commits, which goes on then. A thread of its own folds, makes images of the tables and takes away what is no longer
-/// needed. Threads share it.
+/// A folder of durable tables. Acknowledged commits, on one table or on several by a [`DatabaseTransaction`], are there
+/// when the folder is opened again, as far as the [`SyncMode`](crate::SyncMode) says. All tables have one numbering of
+/// commits, which goes on then. A background thread folds, writes checkpoints of the tables and deletes files that are
+/// no longer needed. Threads share it.
 ///
-/// Nothing in the folder is to be changed by hand; it may be copied while no process has it open.
+/// Don't change anything in the folder by hand; it may be copied while no process has it open.
 ///
-/// A table, a transaction, a pin or a database transaction that is forgotten ([`std::mem::forget`]) stays, and so the
-/// database is never closed, but by the end of its process.
+/// A table, a transaction, a pin or a database transaction that is forgotten ([`std::mem::forget`]) stays, and the
+/// database is then closed by the end of its process alone.
 ///
 /// ```
 /// # fn run(folder: &std::path::Path) -> Result<(), narthexmace::Error> {
@@ -65,9 +65,24 @@ unsafe impl Sync for Database {}
 type Name = [c_char; ffi::MAX_NAME + 1];
 
 impl Database {
-    /// Opens the database in a folder, which is made where there is none: not those above it.
+    /// Opens the database in a folder, which is created if it isn't there; the folders above it aren't. All tables, and
+    /// the journal, are read into memory.
     ///
-    /// [`DatabaseError`] says why it isn't opened, and of damage which file or which commit is at fault.
+    /// # Errors
+    ///
+    /// [`DatabaseError`] has the cause, and for damage the file or the commit:
+    ///
+    /// - [`Error::Locked`]: this process or another has it open.
+    /// - [`Error::Corrupt`]: durable data is corrupt.
+    /// - [`Error::Incomplete`]: a file or a commit is missing.
+    /// - [`Error::Mismatch`]: the journal isn't the journal of these tables.
+    /// - [`Error::BadCheckpoint`], [`Error::NoCheckpoint`]: a checkpoint can't be read.
+    /// - [`Error::NewerFormat`]: a later version of the library wrote a file.
+    /// - [`Error::Missing`]: read-only, and there is no database in the folder.
+    /// - [`Error::Io`]: a file can't be created, written, synced or read.
+    /// - [`Error::BadLimit`]: an option is outside its range.
+    /// - [`Error::NoMemory`]: out of memory.
+    /// - [`Error::Misuse`]: the path is empty or has a zero byte.
     pub fn open(folder: impl AsRef<Path>, options: &DatabaseOptions) -> Result<(Database, Report), DatabaseError> {
         let folder = path_of(folder.as_ref())?;
         let options = options.passed()?;
@@ -90,14 +105,22 @@ impl Database {
         self.handles.lock().unwrap_or_else(PoisonError::into_inner)
     }
 
-    /// Makes a table of a name over a CSV text, as [`Table::open`] does: a header alone makes an empty one. It is on
-    /// the device when this returns, with its options, which it keeps, and it lasts until it is dropped.
+    /// Creates a table over CSV text, as [`Table::open`] does: a header alone creates an empty one. It is durable when
+    /// this returns, with its options, and exists until it is dropped.
     ///
-    /// A name has 1 to 64 bytes, none of them below 32 or 127: else [`Error::TypeMismatch`]. [`Error::Exists`] where
-    /// there is a table of the name; [`Error::Io`], [`Error::WritesFailed`]; [`Error::Misuse`] where this thread has a
-    /// commit of the database prepared; and those of [`Table::open`]. Where it is this crate that memory is refused to,
-    /// the table is there after [`Error::NoMemory`], and [`table`](Database::table) has it: else there is no such table
-    /// after an error.
+    /// # Errors
+    ///
+    /// - [`Error::Exists`]: a table of this name exists.
+    /// - [`Error::TypeMismatch`]: the name hasn't 1 to 64 bytes, or has one below 32 or 127.
+    /// - [`OpenError::BadTable`]: the text isn't a table; it has the first fault.
+    /// - [`Error::TooManyRows`], [`Error::BadLimit`]: as of [`Table::open`].
+    /// - [`Error::Io`]: a file can't be written or synced.
+    /// - [`Error::WritesFailed`]: an earlier write failed.
+    /// - [`Error::Incomplete`]: as of [`maintain`](Database::maintain).
+    /// - [`Error::ReadOnly`]: the database was opened read-only.
+    /// - [`Error::NoMemory`]: out of memory. If this crate's allocator was refused, the table exists, and
+    ///   [`table`](Database::table) returns it.
+    /// - [`Error::Misuse`]: this thread holds a prepared commit of the database.
     pub fn create(&self, name: &str, csv: impl AsRef<[u8]>, options: &Options) -> Result<TableRef<'_>, OpenError> {
         let (passed, csv, options) = (name_of(name)?, csv.as_ref(), options.passed()?);
         let mut raw = ptr::null_mut();
@@ -116,7 +139,11 @@ impl Database {
         Ok(self.table(name)?)
     }
 
-    /// Makes a table of a name over columns, as [`Table::from_columns`] does; else as [`create`](Database::create).
+    /// Creates a table over columns, as [`Table::from_columns`] does; else as [`create`](Database::create).
+    ///
+    /// # Errors
+    ///
+    /// Those of [`Table::from_columns`] and [`create`](Database::create).
     pub fn create_from_columns(
         &self,
         name: &str,
@@ -134,8 +161,11 @@ impl Database {
         Ok(self.table(name)?)
     }
 
-    /// Makes a table of a name over a stream of Arrow's, as [`Table::open_arrow`] does; else as
-    /// [`create`](Database::create).
+    /// Creates a table over an Arrow stream, as [`Table::open_arrow`] does; else as [`create`](Database::create).
+    ///
+    /// # Errors
+    ///
+    /// Those of [`Table::open_arrow`] and [`create`](Database::create).
     pub fn create_from_arrow(
         &self,
         name: &str,
@@ -156,15 +186,25 @@ impl Database {
         Ok(self.table(name)?)
     }
 
-    /// The table of a name: [`Error::Missing`] where there is none, [`Error::NoMemory`].
+    /// The table of a name.
+    ///
+    /// # Errors
+    ///
+    /// - [`Error::Missing`]: no table has this name.
+    /// - [`Error::NoMemory`]: out of memory.
     pub fn table(&self, name: &str) -> Result<TableRef<'_>, Error> {
         let (raw, handle) = taken(Keeper::Lent(self), name)?;
         // SAFETY: the handle is of this table.
         unsafe { TableRef::adopt(raw, handle) }
     }
 
-    /// The same of a database that is shared: a table that keeps a share of it. The database is closed once it and all
-    /// such are gone.
+    /// The table of a name in a shared database: a [`Table`] that keeps a share of it. The database is closed once it
+    /// and all such tables are dropped.
+    ///
+    /// # Errors
+    ///
+    /// - [`Error::Missing`]: no table has this name.
+    /// - [`Error::NoMemory`]: out of memory.
     ///
     /// ```
     /// # fn run(folder: &std::path::Path) -> Result<(), narthexmace::Error> {
@@ -204,8 +244,12 @@ impl Database {
         unsafe { Table::of_database(raw, Some(handle)) }
     }
 
-    /// The names of the tables, in the order in which they were made. Where others make or drop tables meanwhile, those
-    /// may be among them or not. [`Error::NoMemory`].
+    /// The names of the tables, in the order of their creation. Tables that others create or drop meanwhile may be
+    /// among them or not.
+    ///
+    /// # Errors
+    ///
+    /// - [`Error::NoMemory`]: out of memory.
     pub fn names(&self) -> Result<Vec<String>, Error> {
         let tables = self.counts().tables;
         let mut names = Vec::new();
@@ -235,12 +279,18 @@ impl Database {
         }
     }
 
-    /// Drops the table of a name.
+    /// Drops a table.
     ///
-    /// [`Error::Missing`] where there is none. [`Error::Misuse`] while anybody has it ([`TableRef`], or a table by
-    /// [`table_shared`](Database::table_shared)), while a database transaction is open that began when it was there,
-    /// and where this thread has a commit of the database prepared. [`Error::Io`], [`Error::WritesFailed`],
-    /// [`Error::NoMemory`]: it stays.
+    /// # Errors
+    ///
+    /// - [`Error::Missing`]: no table has this name.
+    /// - [`Error::Misuse`]: a [`TableRef`] or a [`table_shared`](Database::table_shared) of it is there, a database
+    ///   transaction is open that began when it existed, or this thread holds a prepared commit of the database.
+    /// - [`Error::Io`]: a file can't be written or synced; the table stays.
+    /// - [`Error::WritesFailed`]: an earlier write failed; the table stays.
+    /// - [`Error::Incomplete`]: as of [`maintain`](Database::maintain); the table stays.
+    /// - [`Error::ReadOnly`]: the database was opened read-only.
+    /// - [`Error::NoMemory`]: out of memory; the table stays.
     pub fn drop_table(&self, name: &str) -> Result<(), Error> {
         let passed = name_of(name).map_err(|_| Error::Missing)?;
         let table = {
@@ -265,28 +315,43 @@ impl Database {
         Ok(raw)
     }
 
-    /// Begins a database transaction: one over all tables, which it sees at one moment. It waits for no commit.
-    /// [`Error::NoMemory`].
+    /// Begins a database transaction: one over all tables, as of one moment. It waits for no commit.
+    ///
+    /// # Errors
+    ///
+    /// - [`Error::NoMemory`]: out of memory.
     pub fn begin(&self) -> Result<DatabaseTransaction<'_>, Error> {
         DatabaseTransaction::begun(Keeper::Lent(self))
     }
 
-    /// The same of a database that is shared: the database transaction keeps it, and so it can be kept beside it, in a
-    /// session.
+    /// Begins a database transaction over a shared database, as [`begin`](Database::begin) does. It keeps a share of
+    /// the database, so that a session can keep both.
+    ///
+    /// # Errors
+    ///
+    /// - [`Error::NoMemory`]: out of memory.
     pub fn begin_shared(self: &Arc<Database>) -> Result<DatabaseTransaction<'static>, Error> {
         DatabaseTransaction::begun(Keeper::Shared(Arc::clone(self)))
     }
 
-    /// Does the maintenance that is due: folds, checkpoints, and the removal of files that are no longer needed, where
-    /// the database has no thread of its own ([`DatabaseOptions::maintenance`]); and waits for that one where it has.
-    /// [`Error::Io`], [`Error::WritesFailed`], [`Error::NoMemory`]: it is due again. [`Error::Misuse`] where this
-    /// thread has a commit of the database prepared.
+    /// Does the maintenance that is due: folds, checkpoints, and the deletion of files that are no longer needed. It
+    /// makes all commits durable first. With a background thread ([`DatabaseOptions::maintenance`]) it waits for that
+    /// thread's round.
+    ///
+    /// # Errors
+    ///
+    /// - [`Error::Io`]: a file can't be written or synced; it is due again.
+    /// - [`Error::WritesFailed`]: an earlier write failed, or the commits can't be made durable.
+    /// - [`Error::Incomplete`]: the next opening would miss a commit in what was to be written. Nothing was written.
+    /// - [`Error::ReadOnly`]: the database was opened read-only.
+    /// - [`Error::NoMemory`]: out of memory; it is due again.
+    /// - [`Error::Misuse`]: this thread holds a prepared commit of the database.
     pub fn maintain(&self) -> Result<(), Error> {
         // SAFETY: the database is open while `self` is there.
         done(unsafe { ffi::pdt_maintain(self.as_raw()) })
     }
 
-    /// What it has counted since its opening, and what it keeps now.
+    /// Reads the database's counters.
     pub fn counts(&self) -> DatabaseCounts {
         let mut counts =
             ffi::DatabaseCounts { size: size_of::<ffi::DatabaseCounts>(), ..ffi::DatabaseCounts::default() };
@@ -296,11 +361,14 @@ impl Database {
         DatabaseCounts::told(&counts)
     }
 
-    /// Closes the database, as a drop does, and says how that went. What was committed is on the device then, whatever
-    /// the [`SyncMode`](crate::SyncMode). [`Error::OutcomeUnknown`] where that fails: it is closed all the same.
-    /// [`Error::Misuse`] while a stream of [`Pin::arrow`](crate::Pin::arrow) isn't released, or where a table's
-    /// transaction, a pin or a database transaction was forgotten: the error has the database then, which may be closed
-    /// again.
+    /// Closes the database, as a drop does, and reports how that went. All commits are durable then, whatever the
+    /// [`SyncMode`](crate::SyncMode).
+    ///
+    /// # Errors
+    ///
+    /// - [`Error::OutcomeUnknown`]: the last commits couldn't be made durable; the database is closed.
+    /// - [`Error::Misuse`]: a stream of [`Pin::arrow`](crate::Pin::arrow) isn't released, or a transaction, a pin or a
+    ///   database transaction was forgotten. The error has the database then, which may be closed again.
     pub fn close(mut self) -> Result<(), CloseError> {
         match self.end() {
             ffi::OK => Ok(()),
@@ -320,7 +388,7 @@ impl Database {
     }
 }
 
-/// Why a database isn't closed, or what came of its close.
+/// Why a database isn't closed, or isn't durable.
 #[derive(Debug)]
 pub struct CloseError {
     /// [`Error::Misuse`], [`Error::OutcomeUnknown`].

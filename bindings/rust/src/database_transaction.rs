@@ -9,10 +9,10 @@ use std::cell::RefCell;
 use std::fmt;
 use std::ptr::{self, NonNull};
 
-/// An open transaction over all tables of a [`Database`], which it sees at one moment. It is committed on all
-/// tables that it has changed or on none, and aborted when it is dropped. It may be sent to another thread, and is used
-/// by one at a time. It borrows its database or, where [`Database::begin_shared`] began it, keeps a share of it, so
-/// that a session can keep both.
+/// An open transaction over all tables of a [`Database`], as of one moment. It is committed on all tables that it has
+/// changed or on none, and aborted when it is dropped. It may be sent to another thread; one thread at a time uses it.
+/// It borrows its database or, if [`Database::begin_shared`] began it, keeps a share of it, so that a session can keep
+/// both.
 ///
 /// ```
 /// # fn run(folder: &std::path::Path) -> Result<(), narthexmace::Error> {
@@ -93,13 +93,15 @@ impl<'d> DatabaseTransaction<'d> {
         &self.database
     }
 
-    /// The database transaction's part over a table: the reads, the writes and the savepoints of a [`Transaction`],
-    /// none of which ends it. Those over several tables may be there side by side, and they stay on the database
-    /// transaction's thread. One that is dropped may be asked for again, with its writes, and its savepoints still
-    /// good.
+    /// Its part over a table: the reads, the writes and the savepoints of a [`Transaction`], without an end of its own.
+    /// Parts over several tables may be there side by side, and stay on this thread. One that is dropped may be asked
+    /// for again, with its writes and savepoints.
     ///
-    /// [`Error::Missing`] where the table was made after the database transaction began; [`Error::Misuse`] where the
-    /// one over this table is there already, and of a table that is no table of the database; [`Error::NoMemory`].
+    /// # Errors
+    ///
+    /// - [`Error::Missing`]: the table was created after the database transaction began.
+    /// - [`Error::Misuse`]: a part over this table is there already, or the table isn't in this database.
+    /// - [`Error::NoMemory`]: out of memory; nothing changed.
     pub fn on<'w>(&'w self, table: &'w Table) -> Result<Part<'w>, Error> {
         let mut raw = ptr::null_mut();
         let mut parts = self.parts.borrow_mut();
@@ -117,15 +119,24 @@ impl<'d> DatabaseTransaction<'d> {
         Ok(unsafe { Transaction::lent(txn, Keeper::Lent(table), savepoints, InDatabase { dbtxn: self, at }) })
     }
 
-    /// Commits on all tables that it has changed, or on none, as one commit with one number, and answers that; one that
-    /// changes nothing takes no number, and answers the number that it saw. Where it is refused the database
-    /// transaction is over: for the causes see [`Transaction::commit`](crate::Transaction::commit).
+    /// Commits on all tables that it has changed, or on none, as one commit with one number, and returns that number.
+    /// One that changes nothing takes no number, and returns the number that it saw. After an error the database
+    /// transaction is over.
+    ///
+    /// # Errors
+    ///
+    /// Those of [`Transaction::commit`](crate::Transaction::commit), of any of the tables.
     pub fn commit(self) -> Result<u64, Error> {
         self.try_commit().map_err(Error::from)
     }
 
-    /// As [`commit`](DatabaseTransaction::commit), and the refusal has the number of the newest commit where the
-    /// database transaction is over, and else the database transaction, which may commit again.
+    /// Commits as [`commit`](DatabaseTransaction::commit) does, and gives the database transaction back if it is still
+    /// open.
+    ///
+    /// # Errors
+    ///
+    /// The causes of [`commit`](DatabaseTransaction::commit). The refusal has the number of the newest commit if the
+    /// database transaction is over, or else the database transaction, which may commit again.
     pub fn try_commit(mut self) -> Result<u64, DatabaseCommitError<'d>> {
         let mut number = 0;
         // SAFETY: the database transaction is open; it is over then, unless the answer is one that gives it back.
@@ -141,7 +152,7 @@ impl<'d> DatabaseTransaction<'d> {
         Err(refusal)
     }
 
-    /// Ends the database transaction and leaves nothing of it, as a drop does.
+    /// Ends the database transaction without a commit, as a drop does.
     pub fn abort(self) {}
 }
 

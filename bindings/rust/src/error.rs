@@ -4,76 +4,73 @@ use std::ffi::{CStr, c_int};
 use std::fmt;
 use std::io;
 
-/// Why a call did not do what it was asked: one variant for each code of `pdt.h`. Nothing has changed then, unless a
-/// variant says otherwise.
+/// Why a call failed: one variant for each code of `pdt.h`. Nothing has changed then, unless a variant says otherwise.
+/// docs/ERRORS.md in the repository has what to do.
 #[derive(Clone, Copy, Debug, PartialEq, Eq)]
 #[non_exhaustive]
 pub enum Error {
-    /// Memory was refused.
+    /// Out of memory.
     NoMemory,
-    /// A commit since the transaction began changed what it changed. The transaction is over.
+    /// A concurrent commit modified the same data. The transaction is over.
     Conflict,
-    /// More commits came since the transaction began than are kept, or a trim. The transaction is over.
+    /// The changes of a commit since the transaction began aren't retained any more. The transaction is over.
     TooOld,
-    /// The table would have more rows than its limit. At a commit the transaction is over.
+    /// The table would have more rows than its limit. After a commit the transaction is over.
     Full,
-    /// There is a row of the key.
+    /// A row with this key exists.
     Duplicate,
-    /// There is no row of the key, the savepoint is gone, or the changes of a commit aren't kept any more. Or there is
-    /// no table of the name, or none when the database transaction began.
+    /// No row has this key, the savepoint is gone, or a commit isn't retained any more. Or no table has this name, or
+    /// it was created after the database transaction began.
     Missing,
-    /// The cells don't fit the columns: their number, a type, a text above 4,096 bytes, a key column that would be set,
-    /// or a column that isn't there. Or a table can't have the name.
+    /// Cells don't fit their columns: a wrong number or type, a text of more than 4,096 bytes, a key column to be set,
+    /// or there is no such column. Or a name isn't valid for a table.
     TypeMismatch,
-    /// The text is no table: [`OpenError`] has the fault.
+    /// The text isn't a table: [`OpenError`] has the fault.
     BadTable,
-    /// A limit of the [`Options`](crate::Options), or of the [`DatabaseOptions`](crate::DatabaseOptions), is outside
-    /// its range.
+    /// A member of [`Options`](crate::Options) or [`DatabaseOptions`](crate::DatabaseOptions) is outside its range.
     BadLimit,
     /// The table has more rows than the limit.
     TooManyRows,
-    /// Room for a row was too small. The calls of this crate make room and ask again, so that none answers this.
+    /// A buffer is too small. The calls of this crate grow theirs, so that none returns this.
     TooSmall,
     /// A column's file can't be read as one.
     BadCheckpoint,
-    /// The files hold no whole checkpoint.
+    /// The files contain no complete checkpoint.
     NoCheckpoint,
-    /// The call may not be made now: this thread has a commit of the table prepared, or the checkpoint is not written
-    /// yet, or written, or installed already. Or a path has a zero byte, or more bytes than the library takes. Of a
-    /// database: the table is in use, or is another database's, or the database transaction's part over it is out
-    /// already.
+    /// The call isn't allowed now: this thread holds a prepared commit of the table, or the checkpoint isn't written
+    /// yet, or is written or installed already. Or a path has a zero byte, or is too long. For a database: the table is
+    /// in use, or is in another database, or a part over it is there already.
     Misuse,
-    /// A file can't be made, written, synced or read.
+    /// A file can't be created, written, synced or read.
     Io {
         /// What the system says, as [`io::Error::from_raw_os_error`] takes it.
         errno: i32,
     },
-    /// A file of a table is there already, or a table of the name.
+    /// A file of a checkpoint, or a table of this name, exists already.
     Exists,
     /// A fold or another checkpoint came since the checkpoint began.
     Superseded,
-    /// A row's key isn't above that of the row before it.
+    /// A row's key isn't above the key of the row before it.
     NotAscending,
-    /// What took the bytes of a checkpoint failed.
+    /// The function that takes a checkpoint's bytes, or an Arrow stream, failed.
     DeviceFailed,
-    /// Another process, or this one, has the database open.
+    /// This process or another has the database open.
     Locked,
-    /// What was durable in a database is damaged: [`DatabaseError`](crate::DatabaseError) says which file, or which
-    /// commit.
+    /// Durable data is corrupt: [`DatabaseError`](crate::DatabaseError) has the file or the commit.
     Corrupt,
-    /// A commit of a database, or a file, is missing: [`DatabaseError`](crate::DatabaseError) says which.
+    /// A commit or a file of a database is missing: [`DatabaseError`](crate::DatabaseError) has which.
     Incomplete,
-    /// The journal isn't of the database's tables: [`DatabaseError`](crate::DatabaseError) says at which commit.
+    /// The journal isn't the journal of the database's tables: [`DatabaseError`](crate::DatabaseError) has the commit.
     Mismatch,
-    /// The device failed over a commit, which is over: it is there or not, as the next opening of its database tells.
+    /// I/O error during a commit, which is over: whether it is durable is unknown until its database is reopened.
     OutcomeUnknown,
-    /// The device has failed: the database takes no write until it is opened again.
+    /// An earlier write failed: the database takes no writes until it is reopened.
     WritesFailed,
-    /// What a transaction changes takes 4 GiB or more in the journal.
+    /// The transaction's changes take 4 GiB or more in the journal.
     TooLong,
-    /// The database was opened for reading alone.
+    /// The database was opened read-only.
     ReadOnly,
-    /// A later version of the library wrote a file of the database: [`DatabaseError`](crate::DatabaseError) says which.
+    /// A later version of the library wrote a file of the database: [`DatabaseError`](crate::DatabaseError) has which.
     NewerFormat,
     /// A code of a later version of the library than this crate is for.
     Unknown(i32),
@@ -175,14 +172,14 @@ impl From<std::collections::TryReserveError> for Error {
     }
 }
 
-/// The first fault of a text that is no table.
+/// The first fault of text that isn't a table.
 #[derive(Clone, Copy, Debug, PartialEq, Eq)]
 pub struct TableFault {
-    /// The record, which counts from 1 with the header.
+    /// The record, from 1 with the header.
     pub record: u64,
-    /// The cell, which counts from 0, and is 0 where the whole record is meant.
+    /// The cell, from 0; 0 for the whole record.
     pub column: u64,
-    /// What is wrong there, in English.
+    /// What is wrong, in English.
     pub cause: &'static str,
 }
 
@@ -199,12 +196,12 @@ impl TableFault {
     }
 }
 
-/// Why a text makes no table.
+/// Why a table can't be opened over text.
 #[derive(Clone, Copy, Debug, PartialEq, Eq)]
 pub enum OpenError {
-    /// The text is no table.
+    /// The text isn't a table.
     BadTable(TableFault),
-    /// [`Error::TooManyRows`], [`Error::BadLimit`], [`Error::NoMemory`].
+    /// Another error: see the call.
     Other(Error),
 }
 
@@ -237,29 +234,28 @@ impl fmt::Display for OpenError {
 
 impl std::error::Error for OpenError {}
 
-/// Why a commit of a `T`, a transaction or a database transaction, is refused. Where the variant has it, it is given
-/// back as it was, and may commit again; else it is over, and a number is that of the newest table.
+/// Why a commit of a `T`, a transaction or a database transaction, is refused. A variant that has it gives it back as
+/// it was, and it may commit again. Else it is over, and a number is the number of the newest version.
 #[derive(Debug)]
 #[non_exhaustive]
 pub enum Refusal<T> {
-    /// A commit since it began changed what it changed.
+    /// A concurrent commit modified the same data.
     Conflict(u64),
-    /// More commits came since it began than are kept, or a trim.
+    /// The changes of a commit since it began aren't retained any more.
     TooOld(u64),
     /// A table would have more rows than its limit.
     Full(u64),
-    /// The device failed over the commit, which is there or not, as the next opening of the database tells.
+    /// I/O error while the commit was written: whether it is durable is unknown until the database is reopened.
     OutcomeUnknown,
-    /// Memory was refused: it is still open.
+    /// Out of memory: it is still open.
     NoMemory(T),
-    /// This thread has another commit of the table, or of the database, prepared: it is still open.
+    /// This thread holds another prepared commit of the table, or of the database: it is still open.
     Misuse(T),
-    /// The device of the database has failed, which takes no write until it is opened again: it is still open, for
-    /// reads.
+    /// An earlier write failed, and the database takes no writes until it is reopened: it is still open, for reads.
     WritesFailed(T),
-    /// What it changes takes 4 GiB or more in the journal: it is still open.
+    /// The changes take 4 GiB or more in the journal: it is still open.
     TooLong(T),
-    /// The database was opened for reading alone: it is still open, for reads.
+    /// The database was opened read-only: it is still open, for reads.
     ReadOnly(T),
     /// A code of a later version of the library than this crate is for: it is over as far as this crate knows, and what
     /// it has isn't freed.
@@ -291,7 +287,7 @@ impl<T> Refusal<T> {
         (ended, Some(given_back))
     }
 
-    /// The same without the number, and without what is given back.
+    /// The error without the number, and without what is given back.
     pub fn error(&self) -> Error {
         match self {
             Refusal::Conflict(_) => Error::Conflict,

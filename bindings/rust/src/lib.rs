@@ -1,14 +1,14 @@
 //! Narthexmace from Rust: an ordered table under snapshot isolation, which takes updates without touching its sorted
 //! columns.
 //!
-//! A [`Table`] is a table that threads share. A [`Transaction`] reads the table as it was when it began, with its own
+//! A [`Table`] is an ordered table that threads share. A [`Transaction`] reads the version of its begin with its own
 //! writes, row by row or column by column ([`Batch`]), and is committed, or aborted when it is dropped. Of two
 //! transactions that change the same cells the first that commits wins, and the other one gets a conflict. A [`Pin`]
-//! keeps the table of a number, so that many begin over it. [`Table::changes_after`] hands out what each commit
-//! changed, and [`Table::wait`] waits for the next one.
+//! keeps a version, so that several threads begin over it. [`Table::changes_after`] returns what each commit changed
+//! (change data capture), and [`Table::wait`] blocks until the next one.
 //!
-//! A [`Database`] is a folder of tables that last. A commit over one of them ([`TableRef`]), or over several by a
-//! [`DatabaseTransaction`], is there when the folder is opened again.
+//! A [`Database`] is a folder of durable tables. Acknowledged commits over one of them ([`TableRef`]), or over several
+//! by a [`DatabaseTransaction`], are there when the folder is opened again.
 //!
 //! ```
 //! use narthexmace::{Error, Options, Table, cells};
@@ -27,20 +27,26 @@
 //!
 //! # Linking
 //!
-//! The library is looked for in this order:
+//! The build looks for the library in this order:
 //!
-//! 1. in the folder that `PDT_LIB_DIR` names in the environment of cargo; where it isn't there, nothing else is tried;
+//! 1. in the folder that `PDT_LIB_DIR` names in the environment of cargo; if it isn't there, nothing else is tried;
 //! 2. where pkg-config has `pdt` of the version of this crate, as `make install` leaves it. `PKG_CONFIG` may name
 //!    another program, and `PKG_CONFIG_PATH` more folders;
 //! 3. in `../../libpdt/out` beside this crate, where `make libpdt` builds it at the top of the repository.
 //!
-//! Of a folder that has both, the static library `libpdt.a` is linked, so that the program needs no other file; or else
-//! `libpdt.so`, which the program has to find when it runs.
+//! If a folder has both, the static library `libpdt.a` is linked, so that the program needs no other file; or else
+//! `libpdt.so`, which the program has to find when it runs. The documentation is built without a library:
+//! `DOCS_RS=1 cargo doc`.
 //!
 //! # Memory
 //!
-//! Where memory is refused a call answers [`Error::NoMemory`], also where it is this crate that asks for it, and the
-//! table and the transaction are as they were.
+//! If memory is refused, also to this crate, a call returns [`Error::NoMemory`], and the table and the transaction are
+//! unchanged.
+//!
+//! # Errors
+//!
+//! [`Error`] has a variant for each cause. Each call lists those that it returns. After an error nothing has changed,
+//! unless the call says otherwise.
 //!
 //! # What doesn't compile
 //!
@@ -274,6 +280,7 @@
 //! });
 //! # Ok::<(), Error>(())
 //! ```
+#![warn(clippy::missing_errors_doc)]
 #![deny(missing_docs, unsafe_op_in_unsafe_fn, clippy::undocumented_unsafe_blocks)]
 
 mod arrow;

@@ -3,41 +3,44 @@ use crate::cells::owned;
 use crate::{Error, ffi};
 use std::fmt;
 
-/// What a commit of a database that was answered `Ok` survives.
+/// What an acknowledged commit of a database survives.
 #[derive(Clone, Copy, Debug, Default, PartialEq, Eq, Hash)]
 pub enum SyncMode {
-    /// The end of the machine: it is acknowledged once the device has it. Commits that wait share a write and a sync.
+    /// A crash of the machine: a commit is acknowledged once it is on the device. Commits that wait at the same time
+    /// share a write and a sync (group commit).
     #[default]
     Full,
-    /// The end of the process: it is acknowledged once the kernel has it. The device has it a second later, or sooner.
+    /// A kill of the process: a commit is acknowledged once the kernel has it. It is on the device a second later, or
+    /// sooner.
     Normal,
-    /// Neither: it is acknowledged from memory. The device has it a second later, or sooner.
+    /// Neither: a commit is acknowledged from memory. It is on the device a second later, or sooner.
     Off,
 }
 
-/// What a database is opened with.
+/// How to open a database.
 #[derive(Clone, Copy, Debug, PartialEq, Eq)]
 pub struct DatabaseOptions {
-    /// What a commit survives: the end of the machine, which is the default.
+    /// What an acknowledged commit survives; a crash of the machine by default.
     pub sync: SyncMode,
-    /// Whether a begin takes the newest table, also where a crash could take its last commits away: no.
+    /// Whether a begin takes the newest version, even if a crash could still lose it; false by default.
     pub early_reads: bool,
-    /// Whether the database has a thread of its own for folds and checkpoints: yes. Else
+    /// Whether there is a background thread for folds and checkpoints; true by default. Else
     /// [`Database::maintain`](crate::Database::maintain) does what is due.
     pub maintenance: bool,
-    /// Whether the database is only read, and nothing in its folder is made or changed: no. Several may read it at once.
-    /// Each call that would write is refused by [`Error::ReadOnly`].
+    /// Whether nothing in the folder is created or changed; false by default. Several processes may then have it open.
+    /// Calls that would write return [`Error::ReadOnly`].
     pub read_only: bool,
-    /// A Write-PDT of so many entries is folded: 1,024.
+    /// How many entries of a Write-PDT are folded; 1,024 by default.
     pub fold_entries: u64,
-    /// A table whose layers have so many entries, and a fiftieth of its rows, gets a checkpoint: 10,000.
+    /// How many entries, if they are a fiftieth of the rows too, a table has when it gets a checkpoint; 10,000 by
+    /// default.
     pub checkpoint_entries: u64,
-    /// Above so many bytes of journal each table whose checkpoint is old gets one: 67,108,864.
+    /// Bytes of journal above which each table with an old checkpoint gets one; 67,108,864 by default.
     pub journal_bytes: u64,
-    /// The changes of the last commits, which late commits and [`Table::changes`](crate::Table::changes) need, are kept
-    /// up to about so many bytes over all tables, the oldest going first: 268,435,456.
+    /// Bytes of memory for the changes of the last commits over all tables, which late commits and
+    /// [`Table::changes`](crate::Table::changes) need; the oldest are freed first. 268,435,456 by default.
     pub kept_bytes: u64,
-    /// The mode of the files that it makes, less the umask: 0o666. Folders get the right to search beside that to read.
+    /// The mode of new files, less the umask; 0o666 by default. Folders get the right to search beside that to read.
     pub mode: u32,
 }
 
@@ -84,29 +87,27 @@ impl DatabaseOptions {
     }
 }
 
-/// What an opening has found.
+/// What an opening found.
 #[derive(Clone, Copy, Debug, PartialEq, Eq)]
 #[non_exhaustive]
 pub struct Report {
     /// The number of the newest commit.
     pub commits: u64,
-    /// How many commits were read from the journal, because no checkpoint has them.
+    /// Commits that were replayed from the journal, since no checkpoint has them.
     pub replayed: u64,
-    /// How many bytes at the journal's end are no whole commit, which nobody was told of: they are cut off.
+    /// Bytes at the journal's end that were no complete commit. None of them was acknowledged; they are cut off.
     pub torn_bytes: u64,
 }
 
-/// Why a database isn't opened, and what of it is at fault. No file of it has changed.
+/// Why a database isn't opened, and where. No file of it has changed.
 #[derive(Clone, Debug, PartialEq, Eq)]
 #[non_exhaustive]
 pub struct DatabaseError {
-    /// [`Error::Locked`]; [`Error::Corrupt`], [`Error::Incomplete`], [`Error::Mismatch`], [`Error::BadCheckpoint`],
-    /// [`Error::NoCheckpoint`]; [`Error::Io`], [`Error::NoMemory`]; [`Error::Misuse`] of a path that no file can have,
-    /// [`Error::BadLimit`].
+    /// The error: see [`Database::open`](crate::Database::open).
     pub error: Error,
-    /// The file in the folder that it is about, where there is one.
+    /// The file in the folder, if there is one.
     pub file: Option<String>,
-    /// The commit that it is about, where there is one.
+    /// The number of the commit, if there is one.
     pub commit: Option<u64>,
 }
 
@@ -162,31 +163,31 @@ impl fmt::Display for DatabaseError {
 
 impl std::error::Error for DatabaseError {}
 
-/// What a database has counted since its opening, and what it keeps now.
+/// A database's counters since its opening, and what it has now.
 #[derive(Clone, Copy, Debug, PartialEq, Eq)]
 #[non_exhaustive]
 pub struct DatabaseCounts {
     /// The number of the newest commit.
     pub commits: u64,
-    /// The number of the newest one that is known to be on the device.
+    /// The number of the newest commit that is known to be on the device.
     pub durable: u64,
-    /// How often frames were written, of one commit or of several.
+    /// Writes to the journal, each of one commit or several.
     pub batches: u64,
-    /// How often the journal was synced.
+    /// Syncs of the journal.
     pub syncs: u64,
-    /// Folds that maintenance made.
+    /// Folds by maintenance.
     pub folds: u64,
-    /// Images that it made.
+    /// Checkpoints by maintenance.
     pub checkpoints: u64,
-    /// How often something that was due has failed.
+    /// How often maintenance failed.
     pub faults: u64,
-    /// How many bytes the files of the journal have now.
+    /// Bytes of the journal's files now.
     pub journal_bytes: u64,
-    /// And how many they are.
+    /// Files of the journal now.
     pub journal_files: usize,
-    /// How many tables there are.
+    /// Tables now.
     pub tables: usize,
-    /// How many bytes of memory, about, the changes of the last commits take.
+    /// Bytes of memory that the retained changes of commits take, an estimate.
     pub kept_bytes: u64,
 }
 

@@ -1,24 +1,24 @@
 //! What a table is opened with.
 use crate::{Error, ffi};
 
-/// What a table is opened with.
+/// The limits of a table.
 #[derive(Clone, Copy, Debug, PartialEq, Eq)]
 pub struct Options {
     /// How many commits may come between a transaction's begin and its commit: 1 to 65,536, which is the default.
     pub recent: usize,
-    /// How many rows a table may have: 1 to 2,147,483,647, which is the default.
+    /// How many rows the table may have: 1 to 2,147,483,647, which is the default.
     pub row_limit: u64,
-    /// Which changes of one row conflict: by column, which is the default, or by row.
+    /// Which changes of one row conflict; by column by default.
     pub conflicts: ConflictRule,
 }
 
 /// Which changes of one row conflict. An insert, a delete or a replacement of the row conflicts by either rule.
 #[derive(Clone, Copy, Debug, Default, PartialEq, Eq)]
 pub enum ConflictRule {
-    /// Those of one column.
+    /// Changes of one column.
     #[default]
     ByColumn,
-    /// Any two.
+    /// Any two changes.
     ByRow,
 }
 

@@ -5,12 +5,12 @@ use crate::{Error, Table, Transaction, ffi};
 use std::fmt;
 use std::ptr::{self, NonNull};
 
-/// A table as it was at a number. Transactions begin over it whatever was committed since, and several threads read it
-/// side by side: each begins a transaction of its own.
+/// A version of a table that is kept. Transactions begin over it whatever was committed since, and several threads read
+/// it side by side: each begins a transaction of its own.
 ///
-/// While it is there, what commits, folds and checkpoints have replaced since is kept with it. It is let go when it is
-/// dropped; the transactions that began at it stay. It borrows its table or, where [`Table::pin_shared`] made it, keeps
-/// a share of it, and so do its transactions.
+/// A pin keeps in memory what commits, folds and checkpoints have replaced since. Dropping it releases the version; the
+/// transactions that began at it stay open. It borrows its table or, if [`Table::pin_shared`] made it, keeps a share of
+/// it, and so do its transactions.
 ///
 /// ```
 /// use narthexmace::{Error, Options, Table};
@@ -45,19 +45,23 @@ impl<'s> Pin<'s> {
         Pin { raw, number, table }
     }
 
-    /// The number of its table: how many commits made it.
+    /// The number of its version.
     pub fn number(&self) -> u64 {
         self.number
     }
 
-    /// The table whose table it is.
+    /// The table of this version.
     pub fn table(&self) -> &Table {
         &self.table
     }
 
-    /// Begins a transaction over its table, in constant time and without the table's lock. It may write, and commits as
-    /// one that began when that table was the newest: [`CommitError::Conflict`](crate::CommitError::Conflict),
-    /// [`CommitError::TooOld`](crate::CommitError::TooOld). [`Error::NoMemory`].
+    /// Begins a transaction over its version, in constant time and without the table's lock. It may write, and commits
+    /// as one that began when this version was the newest: expect
+    /// [`CommitError::Conflict`](crate::CommitError::Conflict) and [`CommitError::TooOld`](crate::CommitError::TooOld).
+    ///
+    /// # Errors
+    ///
+    /// - [`Error::NoMemory`]: out of memory; nothing changed.
     pub fn begin(&self) -> Result<Transaction<'s>, Error> {
         let mut raw = ptr::null_mut();
         // SAFETY: the pin is not let go, and its table is kept, and so is open.

@@ -3,18 +3,18 @@ use crate::{CommitError, Table, Transaction, ffi};
 use std::fmt;
 use std::marker::PhantomData;
 
-/// A transaction whose commit is decided and can't fail any more, and of which nothing is done yet: time for a program
-/// to write its own log. [`install`](Prepared::install) does it. One that is dropped is given up, and its transaction
-/// aborted.
+/// A transaction whose commit is decided and can't fail any more, and hasn't taken place yet: time for a program to
+/// write its own log. [`install`](Prepared::install) makes it take place. One that is dropped is given up, and its
+/// transaction aborted.
 ///
-/// It has the table's lock, and so it stays on its thread. Commits of other threads wait, and so do their folds and
-/// checkpoints; begins and pins don't, and are of the newest table as it was. Other calls of this thread on the table
-/// answer [`Error::Misuse`](crate::Error::Misuse), but for begins and pins, and those that ask for the columns,
-/// [`Table::sizes`], [`Table::counts`] and [`Table::wait`]; [`Table::trim`] panics. Threads that then make calls on
-/// other tables do so in one order of the tables, or each may wait for the other for ever. One that is forgotten
-/// ([`std::mem::forget`]) keeps the lock: other threads' commits, and the table's drop by one of them, never end.
+/// It holds the table's lock, and so it stays on its thread. Commits of other threads wait, and so do their folds and
+/// checkpoints; begins and pins don't, and see the version before. Other calls of this thread on the table return
+/// [`Error::Misuse`](crate::Error::Misuse), except for begins and pins, reads of the columns, [`Table::sizes`],
+/// [`Table::counts`] and [`Table::wait`]; [`Table::trim`] panics. Threads that call on other tables meanwhile do so in
+/// one order of the tables: else they deadlock. One that is forgotten ([`std::mem::forget`]) keeps the lock: other
+/// threads' commits, and the table's drop by one of them, never return.
 ///
-/// A transaction that changes nothing keeps no lock, and takes no number: its end is that of an abort.
+/// A transaction that changes nothing holds no lock, and takes no number: it ends as by an abort.
 ///
 /// ```
 /// use narthexmace::{Error, Options, Table};
@@ -41,7 +41,8 @@ impl<'s> Prepared<'s> {
         Prepared { txn, number, on_thread: PhantomData }
     }
 
-    /// The number that the commit will have; of a transaction that changes nothing, the number that it saw.
+    /// The number that the commit will have; for a transaction that changes nothing, the number of the version that it
+    /// saw.
     pub fn number(&self) -> u64 {
         self.number
     }
@@ -56,19 +57,24 @@ impl<'s> Prepared<'s> {
         self.txn.table()
     }
 
-    /// Commits, and answers the number. It takes no memory, and can't be refused.
+    /// Makes the commit take place, and returns its number. It takes no memory, and can't be refused.
     ///
     /// # Panics
     ///
-    /// Over a table of a [`Database`](crate::Database) whose device fails: see [`try_install`](Prepared::try_install).
+    /// Over a table of a [`Database`](crate::Database) if the device fails: see [`try_install`](Prepared::try_install).
     pub fn install(self) -> u64 {
         self.try_install().expect("the device of the database takes the commit")
     }
 
-    /// The same over a table of a [`Database`](crate::Database), whose device may fail: it puts the commit into the
-    /// journal, and waits as [`Transaction::commit`] does. [`CommitError::OutcomeUnknown`] as there.
-    /// [`CommitError::WritesFailed`] where the device has failed since the commit was prepared: it is given up, and the
-    /// transaction comes back.
+    /// Installs over a table of a [`Database`](crate::Database), whose device may fail: it appends the commit to the
+    /// journal, and waits as [`Transaction::commit`] does.
+    ///
+    /// # Errors
+    ///
+    /// - [`CommitError::OutcomeUnknown`]: I/O error while the commit was written; whether it is durable is unknown
+    ///   until the database is reopened.
+    /// - [`CommitError::WritesFailed`]: a write has failed since the commit was prepared. It is given up, and the
+    ///   refusal has the transaction.
     pub fn try_install(self) -> Result<u64, CommitError<'s>> {
         // SAFETY: the transaction is open, and prepared on this thread; it is over then, unless the answer is FAILED.
         match unsafe { ffi::pdt_install(self.txn.raw()) } {
@@ -85,7 +91,7 @@ impl<'s> Prepared<'s> {
         }
     }
 
-    /// Gives the commit up: the table is as if it had never been asked, and the transaction open as before.
+    /// Gives the commit up: the table is as if it had never been prepared, and the transaction is open as before.
     pub fn give_up(self) -> Transaction<'s> {
         // SAFETY: the transaction is open, and prepared on this thread.
         let code = unsafe { ffi::pdt_give_up(self.txn.raw()) };

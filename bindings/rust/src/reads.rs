@@ -18,8 +18,13 @@ impl<E: Ending> Transaction<'_, E> {
         rows
     }
 
-    /// Where a key stands: a range of keys is the positions between two ranks. In logarithmic time.
-    /// [`Error::TypeMismatch`], [`Error::NoMemory`].
+    /// How many rows have a smaller key, and whether a row has this key. A range of keys is the range of positions
+    /// between two ranks. In logarithmic time.
+    ///
+    /// # Errors
+    ///
+    /// - [`Error::TypeMismatch`]: the key doesn't fit the key columns.
+    /// - [`Error::NoMemory`]: out of memory; nothing changed.
     pub fn rank<'c, C: Into<CellRef<'c>>>(&self, key: impl IntoIterator<Item = C>) -> Result<Rank, Error> {
         let key = self.key(key)?;
         let mut rank = Rank { below: 0, there: false };
@@ -29,7 +34,12 @@ impl<E: Ending> Transaction<'_, E> {
         Ok(rank)
     }
 
-    /// The row of a key, or none. [`Error::TypeMismatch`], [`Error::NoMemory`].
+    /// The row of a key, or `None`.
+    ///
+    /// # Errors
+    ///
+    /// - [`Error::TypeMismatch`]: the key doesn't fit the key columns.
+    /// - [`Error::NoMemory`]: out of memory; nothing changed.
     pub fn get<'c, C: Into<CellRef<'c>>>(&self, key: impl IntoIterator<Item = C>) -> Result<Option<Row>, Error> {
         let key = self.key(key)?;
         self.read_row(|numbers, out, room, needed| {
@@ -39,7 +49,11 @@ impl<E: Ending> Transaction<'_, E> {
         })
     }
 
-    /// The row at a position, or none past the end. [`Error::NoMemory`].
+    /// The row at a position, or `None` past the end.
+    ///
+    /// # Errors
+    ///
+    /// - [`Error::NoMemory`]: out of memory; nothing changed.
     pub fn row_at(&self, position: u64) -> Result<Option<Row>, Error> {
         self.read_row(|numbers, out, room, needed| {
             // SAFETY: the transaction is open; `read_row` hands in room for a row.
@@ -47,16 +61,24 @@ impl<E: Ending> Transaction<'_, E> {
         })
     }
 
-    /// The cells of chosen columns between two positions, cut to the end of the table: see [`Batch`].
-    /// [`Error::TypeMismatch`] of a column that isn't there, [`Error::NoMemory`].
+    /// The cells of chosen columns between two positions, up to the end of the table: see [`Batch`].
+    ///
+    /// # Errors
+    ///
+    /// - [`Error::TypeMismatch`]: there is no such column.
+    /// - [`Error::NoMemory`]: out of memory; nothing changed.
     pub fn batch(&self, columns: &[usize], positions: impl RangeBounds<u64>) -> Result<Batch<'_>, Error> {
         let (from, to) = self.within(positions);
         Batch::read(&self.open, columns, from, to)
     }
 
-    /// The same, in batches of so many rows, one at least; the last one has what is left. [`Error::TypeMismatch`] of a
-    /// column that isn't there, [`Error::NoMemory`]; and each batch of its own [`Error::NoMemory`], after which none
-    /// comes.
+    /// The cells of chosen columns between two positions, in batches of `rows` rows, at least one; the last batch has
+    /// what is left.
+    ///
+    /// # Errors
+    ///
+    /// - [`Error::TypeMismatch`]: there is no such column.
+    /// - [`Error::NoMemory`]: out of memory, here or for a batch, after which none comes.
     ///
     /// ```
     /// use narthexmace::{Error, Options, Table};
@@ -79,9 +101,13 @@ impl<E: Ending> Transaction<'_, E> {
         Batches::over(&self.open, columns, from, to, rows)
     }
 
-    /// The texts of a text column between two positions, cut to the end of the table, each borrowed where it lies: no
-    /// byte is copied, and no write, commit or abort of the transaction compiles while one is there.
-    /// [`Error::TypeMismatch`] of a column that isn't there or isn't one of texts, [`Error::NoMemory`].
+    /// The texts of a text column between two positions, up to the end of the table, borrowed where they are
+    /// (zero-copy). No write, commit or abort of the transaction compiles while one is there.
+    ///
+    /// # Errors
+    ///
+    /// - [`Error::TypeMismatch`]: there is no such column, or it isn't a text column.
+    /// - [`Error::NoMemory`]: out of memory; nothing changed.
     ///
     /// ```
     /// use narthexmace::{Error, Options, Table};
@@ -96,10 +122,12 @@ impl<E: Ending> Transaction<'_, E> {
         texts::lent(&self.open, column, from, to)
     }
 
-    /// The numbers of an int column from a position on, as many as there is room for and rows to the end of the table. Answers how
-    /// many were written; those after them stay. They are copied, which takes less time than the spans of a batch once
-    /// rows are changed, and most of all after a fold. [`Error::TypeMismatch`] of a column that isn't there or isn't
-    /// one of ints.
+    /// Copies the values of an int column from a position on, as many as fit and there are, and returns how many.
+    /// Values behind them are left as they were.
+    ///
+    /// # Errors
+    ///
+    /// - [`Error::TypeMismatch`]: there is no such column, or it isn't an int column.
     ///
     /// ```
     /// use narthexmace::{Error, Options, Table};
@@ -117,9 +145,12 @@ impl<E: Ending> Transaction<'_, E> {
         batch::numbers(&self.open, column, from, numbers)
     }
 
-    /// The booleans of a bool column from a position on, a byte of 0 or 1 for each, as many as there is room for and
-    /// rows to the end of the table. Answers how many bytes were written; those after them stay.
-    /// [`Error::TypeMismatch`] of a column that isn't there or isn't one of booleans.
+    /// Copies the values of a bool column from a position on as bytes of 0 or 1, as many as fit and there are, and
+    /// returns how many. Bytes behind them are left as they were.
+    ///
+    /// # Errors
+    ///
+    /// - [`Error::TypeMismatch`]: there is no such column, or it isn't a bool column.
     ///
     /// ```
     /// use narthexmace::{Error, Options, Table};
@@ -137,13 +168,14 @@ impl<E: Ending> Transaction<'_, E> {
         batch::booleans(&self.open, column, from, booleans)
     }
 
-    /// What the rows between two positions are made of, cut to the end of the table, in order: stable rows as they are, stable rows that
-    /// layers change, and rows that they insert. No key is read.
+    /// What the rows between two positions, up to the end of the table, are made of, in order: stable rows without
+    /// changes, stable rows with changed columns, and inserted rows. No key is read.
     ///
-    /// Read over the rows of the stable table they are those rows, and so they are over any other rows that are as many. Who has a
-    /// column of the table's in files of its own ([`ColumnValues::Outside`](crate::ColumnValues::Outside)) reads it there by the SIDs, and
-    /// the cells that a row has of its own from the table. The stable table is that of the last checkpoint before the transaction
-    /// began, or else that of the opening.
+    /// Read over the rows of the stable table, the runs are the rows of the transaction; read over any other rows of
+    /// the same number, they are those rows with the same changes. A program that keeps a column in files of its own
+    /// ([`ColumnValues::Outside`](crate::ColumnValues::Outside)) reads it by the stable positions, and the cells that a
+    /// changed row overrides from the table. The stable table is the table of the last checkpoint before the
+    /// transaction began, or else of the opening.
     ///
     /// ```
     /// use narthexmace::{ColumnType, ColumnValues, Error, Options, RowRun, Table};
@@ -174,9 +206,13 @@ impl<E: Ending> Transaction<'_, E> {
         RowRuns::over(&self.open, from, to)
     }
 
-    /// Which columns of the row at a position are its own, a boolean for each column: false where the cell is that of
-    /// the stable row, whatever that holds. Those of an inserted row are all true. [`Error::Missing`] past the end,
-    /// [`Error::NoMemory`].
+    /// Which cells of the row at a position differ from the stable row below it, a boolean for each column: false for
+    /// the cell of the stable row. All are true for an inserted row.
+    ///
+    /// # Errors
+    ///
+    /// - [`Error::Missing`]: the position is past the end.
+    /// - [`Error::NoMemory`]: out of memory; nothing changed.
     pub fn changed(&self, position: u64) -> Result<Vec<bool>, Error> {
         let mut bytes = [0u8; ffi::MAX_COLUMNS];
         let width = self.table().columns().len();

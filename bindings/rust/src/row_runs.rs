@@ -6,7 +6,7 @@ use std::iter::FusedIterator;
 /// How many row runs the library is asked for at a time.
 const STRETCHES: usize = 64;
 
-/// Rows that stand together and come from one place. Positions and SIDs count from 0.
+/// Consecutive rows from one source. Positions and SIDs count from 0.
 #[derive(Clone, Copy, Debug, PartialEq, Eq, Hash)]
 pub enum RowRun {
     /// Stable rows as they are.

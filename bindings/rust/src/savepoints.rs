@@ -2,7 +2,8 @@
 use crate::Error;
 use std::sync::atomic::{AtomicU64, Ordering};
 
-/// A place in a transaction's writes, to which [`Transaction::rollback_to`](crate::Transaction::rollback_to) goes back.
+/// A place in a transaction's writes, to which [`Transaction::rollback_to`](crate::Transaction::rollback_to) rolls
+/// back.
 #[derive(Debug, PartialEq, Eq)]
 pub struct Savepoint {
     level: usize,

@@ -42,30 +42,33 @@ pub struct Column {
     pub column_type: ColumnType,
 }
 
-/// What has grown in a table. [`Table::fold`], [`Table::trim`] and [`Table::checkpoint`] make it small again.
+/// What grows in a table between folds and checkpoints. [`Table::fold`], [`Table::trim`] and [`Table::checkpoint`] make
+/// it small again.
 #[derive(Clone, Copy, Debug, PartialEq, Eq)]
 pub struct Sizes {
-    /// Commits since the opening.
+    /// The number of the newest version: commits since the opening.
     pub commits: u64,
-    /// Entries that a fold moves.
+    /// Entries of the Write-PDT, which a fold moves into the Read-PDT.
     pub write_entries: usize,
-    /// Entries that a checkpoint moves.
+    /// Entries of the Read-PDT, which a checkpoint moves into the stable table.
     pub read_entries: usize,
-    /// Transactions that are open.
+    /// Open transactions.
     pub open_transactions: usize,
 }
 
-/// A table that transactions change. Threads share it: each call takes the table's lock, but for begins and pins, which
-/// wait for no other call, and for those that ask for the columns, which never change. It is closed when it is dropped.
+/// An ordered table that transactions change. Threads share it: each call takes the table's lock, except for begins and
+/// pins, which wait for no other call, and for those that read the columns, which never change. It is closed when it is
+/// dropped.
 ///
-/// What it keeps doesn't grow with its commits: the newest version, those that pins and open transactions have, and the
-/// changes of the last [`Options::recent`] commits.
+/// A table retains the newest version, the versions of pins and open transactions, and the changes of the last
+/// [`Options::recent`] commits. It doesn't grow with the number of commits.
 ///
-/// A table of a [`Database`](crate::Database) is a table like any other, which its drop doesn't close. There nobody
-/// needs [`fold`](Table::fold), [`trim`](Table::trim) and checkpoints: the database does it by itself.
+/// A table outside a [`Database`](crate::Database) is in memory: it is as durable as its last checkpoint, and the
+/// program calls [`fold`](Table::fold), [`trim`](Table::trim) and [`checkpoint`](Table::checkpoint). A database does
+/// all of that for its tables. Dropping one of those doesn't close it.
 ///
-/// A transaction that is forgotten ([`std::mem::forget`]) stays open, and so do a checkpoint and a pin: then the
-/// table's memory is never freed.
+/// A transaction that is forgotten ([`std::mem::forget`]) stays open, and so do a checkpoint and a pin: the table's
+/// memory is never freed then.
 pub struct Table {
     raw: NonNull<ffi::Table>,
     columns: Vec<Column>,
@@ -82,9 +85,15 @@ unsafe impl Send for Table {}
 unsafe impl Sync for Table {}
 
 impl Table {
-    /// Opens the table of a CSV text, whose first record names the columns, as `id:int:key,name:text`.
+    /// Opens a table over CSV text, whose first record names the columns, as `id:int:key,name:text`. The records may be
+    /// in any order of their keys.
     ///
-    /// [`OpenError::BadTable`] with the first fault; [`Error::TooManyRows`], [`Error::BadLimit`], [`Error::NoMemory`].
+    /// # Errors
+    ///
+    /// - [`OpenError::BadTable`]: the text isn't a table; it has the first fault.
+    /// - [`Error::TooManyRows`]: more rows than [`Options::row_limit`].
+    /// - [`Error::BadLimit`]: an option is outside its range.
+    /// - [`Error::NoMemory`]: out of memory.
     ///
     /// ```
     /// use narthexmace::{ColumnType, Error, OpenError, Options, Table};
@@ -113,12 +122,20 @@ impl Table {
         Ok(unsafe { Table::adopt(raw) }?)
     }
 
-    /// Opens a table over the image that [`checkpoint`](Table::checkpoint) left in a folder. The files are read whole,
-    /// and not touched.
+    /// Opens a table over a checkpoint in a folder, which [`checkpoint`](Table::checkpoint) wrote. The files are read
+    /// whole and not changed. Truncated files and bytes without a column's structure are found; other damage isn't,
+    /// since a checkpoint has no checksum.
     ///
-    /// [`Error::Io`], [`Error::BadTable`] (the header), [`Error::BadCheckpoint`], [`Error::NoCheckpoint`],
-    /// [`Error::TooManyRows`], [`Error::BadLimit`], [`Error::NoMemory`]; [`Error::Misuse`] of a path that no file can
-    /// have.
+    /// # Errors
+    ///
+    /// - [`Error::Io`]: a file can't be read.
+    /// - [`Error::BadTable`]: `header.csv` doesn't describe columns.
+    /// - [`Error::BadCheckpoint`]: a column's file can't be read as one.
+    /// - [`Error::NoCheckpoint`]: the files contain no complete checkpoint.
+    /// - [`Error::TooManyRows`]: more rows than [`Options::row_limit`].
+    /// - [`Error::BadLimit`]: an option is outside its range.
+    /// - [`Error::NoMemory`]: out of memory.
+    /// - [`Error::Misuse`]: the path is empty, too long or has a zero byte.
     pub fn recover(folder: impl AsRef<Path>, options: &Options) -> Result<Table, Error> {
         let folder = path_of(folder.as_ref())?;
         let options = options.passed()?;
@@ -178,22 +195,22 @@ impl Table {
         self.raw.as_ptr()
     }
 
-    /// The columns, the key's first.
+    /// The columns, the key columns first.
     pub fn columns(&self) -> &[Column] {
         &self.columns
     }
 
-    /// How many of the first columns are the key.
+    /// How many of the first columns are the key: 1 to 4.
     pub fn key_columns(&self) -> usize {
         self.key_columns
     }
 
-    /// Which column has this name.
+    /// The index of the column with this name, from 0.
     pub fn column(&self, name: &str) -> Option<usize> {
         self.columns.iter().position(|column| column.name == name)
     }
 
-    /// What has grown.
+    /// Reports what has grown since the last fold and checkpoint.
     pub fn sizes(&self) -> Sizes {
         let mut sizes = ffi::Sizes::default();
         // SAFETY: the table is open while `self` is there.
@@ -203,8 +220,7 @@ impl Table {
         Sizes { commits, write_entries, read_entries, open_transactions }
     }
 
-    /// What it has counted since its opening, and what it keeps now. In the time that the kept commits take to be gone
-    /// through; commits wait for it.
+    /// Reads the table's counters. Commits wait while it visits the retained commits, at most [`Options::recent`].
     pub fn counts(&self) -> Counts {
         let mut counts = ffi::Counts { size: size_of::<ffi::Counts>(), ..ffi::Counts::default() };
         // SAFETY: the table is open while `self` is there, and the counts say how much room they have.
@@ -213,14 +229,22 @@ impl Table {
         Counts::told(&counts)
     }
 
-    /// Begins a transaction over the newest table, in constant time. It waits for no commit, no fold and no checkpoint.
-    /// [`Error::NoMemory`].
+    /// Begins a transaction over the newest version, in constant time. It waits for no commit, fold or checkpoint.
+    ///
+    /// # Errors
+    ///
+    /// - [`Error::NoMemory`]: out of memory; nothing changed.
     pub fn begin(&self) -> Result<Transaction<'_>, Error> {
         begin(Keeper::Lent(self))
     }
 
-    /// The same of a table that is shared: the transaction keeps it, and so it can be kept beside it, in a session. The
-    /// table is closed once it and all that is begun so are gone.
+    /// Begins a transaction over the newest version of a shared table, as [`begin`](Table::begin) does. The transaction
+    /// keeps a share of the table, so that a session can keep both. The table is closed once it and everything begun so
+    /// are dropped.
+    ///
+    /// # Errors
+    ///
+    /// - [`Error::NoMemory`]: out of memory; nothing changed.
     ///
     /// ```
     /// use narthexmace::{Error, Options, Table, Transaction};
@@ -243,8 +267,12 @@ impl Table {
         begin(Keeper::Shared(Arc::clone(self)))
     }
 
-    /// Keeps the newest table, so that transactions begin over it whatever is committed since: see [`Pin`]. In constant
-    /// time, and without the table's lock. [`Error::NoMemory`].
+    /// Pins the newest version, so that transactions begin over it whatever is committed since: see [`Pin`]. In
+    /// constant time, without the table's lock.
+    ///
+    /// # Errors
+    ///
+    /// - [`Error::NoMemory`]: out of memory; nothing changed.
     ///
     /// ```
     /// use narthexmace::{Error, Options, Table};
@@ -261,50 +289,80 @@ impl Table {
         pin(Keeper::Lent(self))
     }
 
-    /// The same of a table that is shared: the pin keeps it, and so do the transactions that begin at the pin.
+    /// Pins the newest version of a shared table, as [`pin`](Table::pin) does. The pin keeps a share of the table, and
+    /// so do the transactions that begin at the pin.
+    ///
+    /// # Errors
+    ///
+    /// - [`Error::NoMemory`]: out of memory; nothing changed.
     pub fn pin_shared(self: &Arc<Table>) -> Result<Pin<'static>, Error> {
         pin(Keeper::Shared(Arc::clone(self)))
     }
 
-    /// Folds the Write-PDT into the Read-PDT: later commits are folded into a smaller tree. No table changes, and no
-    /// open transaction; commits wait for it. [`Error::NoMemory`].
+    /// Folds the Write-PDT into the Read-PDT (a delta merge), so that later commits are applied to a small tree. No
+    /// version changes, and no open transaction. Commits wait for the time that it takes to merge the entries.
+    ///
+    /// # Errors
+    ///
+    /// - [`Error::NoMemory`]: out of memory; nothing changed.
+    /// - [`Error::Misuse`]: this thread holds a prepared commit of the table.
     pub fn fold(&self) -> Result<(), Error> {
         // SAFETY: the table is open while `self` is there.
         done(unsafe { ffi::pdt_fold(self.raw.as_ptr()) })
     }
 
-    /// Lets the changes of the last commits go, before there are [`Options::recent`] of them: none of them is in
-    /// [`changes`](Table::changes) any more. A transaction that began before the newest commit is
-    /// [`TooOld`](crate::CommitError::TooOld) at its own, if it changes something; it reads on.
+    /// Frees the retained changes of the last commits, before there are [`Options::recent`] of them:
+    /// [`changes`](Table::changes) has none of them any more. A transaction that began before the newest commit gets
+    /// [`TooOld`](crate::CommitError::TooOld) if it commits a change, and reads on.
     ///
     /// # Panics
     ///
-    /// Where this thread has a commit of the table prepared.
+    /// If this thread holds a prepared commit of the table.
     pub fn trim(&self) {
         // SAFETY: the table is open while `self` is there.
         let code = unsafe { ffi::pdt_trim(self.raw.as_ptr()) };
         assert_eq!(ffi::OK, code, "no trim is made while this thread has a commit prepared");
     }
 
-    /// Writes the newest table into a folder that has no checkpoint, each file synced, then the folder, and the one
-    /// that it stands in; in memory it is the stable table then. Once it answers `Ok` the table is durable, as far as
-    /// these folders go: who made others further up syncs them. Commits wait for two folds.
+    /// Writes the newest version into a folder that has no checkpoint: each file is synced, then the folder, then the
+    /// folder above it. After `Ok` it is durable, except for names further up, which the program syncs if it created
+    /// those folders. In memory it is the stable table then. Commits wait for two folds, and not while the files are
+    /// written.
     ///
-    /// [`Error::Exists`], [`Error::Io`], [`Error::NoMemory`]: what was written is removed, and the stable table is as
-    /// it was; [`Error::Misuse`] of a path that no file can have, and of an empty one.
+    /// # Errors
+    ///
+    /// - [`Error::Exists`]: the folder has a checkpoint, or a part of one.
+    /// - [`Error::Io`]: a file can't be written or synced, or the folder isn't there or may not be read.
+    /// - [`Error::WritesFailed`]: a commit of the table's database can't be made durable.
+    /// - [`Error::NoMemory`]: out of memory.
+    /// - [`Error::Misuse`]: the path is empty, too long or has a zero byte, or this thread holds a prepared commit of
+    ///   the table.
+    ///
+    /// After an error the files that were written are deleted, and the stable table is unchanged.
     pub fn checkpoint(&self, folder: impl AsRef<Path>) -> Result<(), Error> {
         let folder = path_of(folder.as_ref())?;
         // SAFETY: the table is open while `self` is there; the path ends with a zero, and is there during the call.
         done(unsafe { ffi::pdt_checkpoint(self.raw.as_ptr(), folder.as_ptr()) })
     }
 
-    /// Begins a checkpoint of the newest table, which is written while others commit. It folds, and commits wait for
-    /// that. [`Error::NoMemory`].
+    /// Begins a checkpoint of the newest version, which is written while others commit. It folds, which commits wait
+    /// for.
+    ///
+    /// # Errors
+    ///
+    /// - [`Error::NoMemory`]: out of memory; nothing changed.
+    /// - [`Error::Misuse`]: this thread holds a prepared commit of the table.
     pub fn begin_checkpoint(&self) -> Result<Checkpoint<'_>, Error> {
         begin_checkpoint(Keeper::Lent(self))
     }
 
-    /// The same of a table that is shared: the checkpoint keeps it.
+    /// Begins a checkpoint of a shared table, as [`begin_checkpoint`](Table::begin_checkpoint) does. It keeps a share
+    /// of the table.
+    ///
+    /// # Errors
+    ///
+    /// - [`Error::NoMemory`]: out of memory; nothing changed.
+    /// - [`Error::Misuse`]: this thread holds a prepared commit of the table.
     pub fn begin_checkpoint_shared(self: &Arc<Table>) -> Result<Checkpoint<'static>, Error> {
         begin_checkpoint(Keeper::Shared(Arc::clone(self)))
     }

@@ -4,10 +4,11 @@ use crate::{Database, Error, Table, ffi};
 use std::fmt;
 use std::ops::Deref;
 
-/// A table of a [`Database`], which it borrows: a [`Table`] for all calls that a table has. Its drop doesn't close it.
+/// A table of a [`Database`], which it borrows: a [`Table`] for all calls that a table has. Dropping it doesn't close
+/// the table.
 ///
-/// [`Database::table_shared`] has the same as a [`Table`] that keeps a share of its database, and so can be kept beside
-/// it, in a session.
+/// [`Database::table_shared`] returns a [`Table`] that keeps a share of its database instead, so that a session can
+/// keep both.
 ///
 /// ```
 /// # fn run(folder: &std::path::Path) -> Result<(), narthexmace::Error> {

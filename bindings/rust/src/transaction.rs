@@ -15,24 +15,23 @@ pub(crate) const TEXT_ROOM: usize = 512;
 /// Where a key is among the rows.
 #[derive(Clone, Copy, Debug, PartialEq, Eq)]
 pub struct Rank {
-    /// How many rows have a smaller key: the position of the key's row, or where it would come to stand.
+    /// How many rows have a smaller key: the position of the key's row, if there is one.
     pub below: u64,
-    /// Whether there is a row of the key.
+    /// Whether a row has this key.
     pub there: bool,
 }
 
-/// An open transaction. It reads the table as it was when it began, with its own writes; positions count from 0. One
-/// that is dropped is aborted. It may be sent to another thread, and is used by one at a time. It borrows its table or,
-/// where [`Table::begin_shared`] began it, keeps a share of it.
+/// An open transaction: the version of its begin with its own writes. Positions count from 0. One that is dropped is
+/// aborted. It may be sent to another thread; one thread at a time uses it. It borrows its table or, if
+/// [`Table::begin_shared`] began it, keeps a share of it.
 ///
-/// Writes want it for themselves (`&mut self`), so that what a [`Batch`](crate::Batch) or a text borrows stays where it
-/// is.
+/// Writes take `&mut self`, so that what a [`Batch`](crate::Batch) or a text borrows stays where it is.
 ///
-/// A row and a key are given as anything that iterates over cells: `[10]`, [`cells!`](crate::cells), a `&Row`.
+/// A row and a key are anything that iterates over cells: `[10]`, [`cells!`](crate::cells), a `&Row`.
 ///
-/// A database transaction's part over a table is a [`Part`](crate::Part): the same reads, writes and savepoints, but it
-/// ends with the database transaction, and is neither committed nor prepared. What is to take either is generic: `fn
-/// f<E: Ending>(txn: &mut Transaction<'_, E>)`.
+/// A [`Part`](crate::Part) of a database transaction has the same reads, writes and savepoints, but ends with the
+/// database transaction, and is neither committed nor prepared. A function that takes both is generic: `fn f<E:
+/// Ending>(txn: &mut Transaction<'_, E>)`.
 #[must_use = "a transaction that is dropped is aborted"]
 pub struct Transaction<'s, E: Ending = Alone> {
     pub(crate) open: Open<'s>,
@@ -102,8 +101,9 @@ impl<'s> Transaction<'s> {
         Transaction { open: Open { raw, table }, savepoints: Savepoints::default(), ending: Alone { is_over: false } }
     }
 
-    /// Commits, and answers the number of the newest table; one that changes nothing takes no number, is never refused,
-    /// and answers the number that it [saw](Transaction::version). Where it is refused the transaction is over.
+    /// Commits, and returns the number of the newest version. A transaction that changes nothing takes no number, is
+    /// never refused, and returns the number of the version that it [saw](Transaction::version). After an error the
+    /// transaction is over; [`try_commit`](Transaction::try_commit) gives it back if it is still open.
     ///
     /// ```
     /// use narthexmace::{Error, Options, Table};
@@ -116,20 +116,34 @@ impl<'s> Transaction<'s> {
     /// # Ok::<(), Box<dyn std::error::Error + Send + Sync>>(())
     /// ```
     ///
-    /// Over a table of a [`Database`](crate::Database) it waits as its [`SyncMode`](crate::SyncMode) says, and the number
-    /// is that of the database's newest commit.
+    /// Over a table of a [`Database`](crate::Database) it returns once the commit is as durable as the
+    /// [`SyncMode`](crate::SyncMode) says, with the number of the database's newest commit.
     ///
-    /// [`Error::Conflict`], [`Error::TooOld`], [`Error::Full`]; [`Error::NoMemory`]; [`Error::Misuse`] where this thread
-    /// has another commit of the table prepared. Over a table of a database also [`Error::OutcomeUnknown`], which may
-    /// come of one that changes nothing too where reads are early, [`Error::WritesFailed`], [`Error::TooLong`] and
-    /// [`Error::ReadOnly`]. [`try_commit`](Transaction::try_commit) gives the transaction back where it is still open.
+    /// # Errors
+    ///
+    /// - [`Error::Conflict`]: a concurrent commit modified the same data. Begin again, and repeat the work.
+    /// - [`Error::TooOld`]: the changes of a commit since the begin aren't retained any more. Begin again.
+    /// - [`Error::Full`]: the table would have more rows than [`Options::row_limit`](crate::Options::row_limit).
+    /// - [`Error::NoMemory`]: out of memory.
+    /// - [`Error::Misuse`]: this thread holds another prepared commit of the table.
+    ///
+    /// Over a table of a database also:
+    ///
+    /// - [`Error::OutcomeUnknown`]: I/O error while the commit was written; whether it is durable is unknown until the
+    ///   database is reopened. With early reads also for a transaction that changes nothing.
+    /// - [`Error::WritesFailed`]: an earlier write failed.
+    /// - [`Error::TooLong`]: the changes take 4 GiB or more in the journal.
+    /// - [`Error::ReadOnly`]: the database was opened read-only.
     pub fn commit(self) -> Result<u64, Error> {
         self.try_commit().map_err(Error::from)
     }
 
-    /// As [`commit`](Transaction::commit), and the refusal has the number of the newest table where the transaction is
-    /// over, and else the transaction, which may commit again: as [`CommitError::NoMemory`] has, where memory was
-    /// refused.
+    /// Commits as [`commit`](Transaction::commit) does, and gives the transaction back if it is still open.
+    ///
+    /// # Errors
+    ///
+    /// The causes of [`commit`](Transaction::commit). The refusal has the number of the newest version if the
+    /// transaction is over, or else the transaction, which may commit again, as [`CommitError::NoMemory`] does.
     pub fn try_commit(self) -> Result<u64, CommitError<'s>> {
         let mut number = 0;
         // SAFETY: the transaction is open; it is over then, unless the answer is one that gives it back.
@@ -141,13 +155,21 @@ impl<'s> Transaction<'s> {
         Ok(number)
     }
 
-    /// Decides the commit and makes all that it wants, so that it can't fail any more: then a program writes its own
-    /// log, and does it or gives it up. Refused as [`commit`](Transaction::commit).
+    /// Decides the commit, and makes everything that it needs, so that it can't fail any more. A program then writes
+    /// its own log, and installs the commit or gives it up.
+    ///
+    /// # Errors
+    ///
+    /// The causes of [`commit`](Transaction::commit), except for [`Error::OutcomeUnknown`].
     pub fn prepare(self) -> Result<Prepared<'s>, Error> {
         self.try_prepare().map_err(Error::from)
     }
 
-    /// As [`prepare`](Transaction::prepare), with a refusal as that of [`try_commit`](Transaction::try_commit).
+    /// Prepares as [`prepare`](Transaction::prepare) does, and gives the transaction back if it is still open.
+    ///
+    /// # Errors
+    ///
+    /// As [`try_commit`](Transaction::try_commit).
     pub fn try_prepare(self) -> Result<Prepared<'s>, CommitError<'s>> {
         let mut number = 0;
         // SAFETY: the transaction is open; it is so after OK too, and over after an answer that doesn't give it back.
@@ -169,7 +191,7 @@ impl<'s> Transaction<'s> {
         self.ending.is_over = true;
     }
 
-    /// Ends the transaction and leaves no record of it, as a drop does.
+    /// Ends the transaction without a commit, as a drop does.
     pub fn abort(self) {}
 }
 
@@ -196,7 +218,7 @@ impl<'s, E: Ending> Transaction<'s, E> {
         self.open.table()
     }
 
-    /// The number of the table that it sees beneath its own writes: how many commits made it.
+    /// The number of the version that it sees below its own writes.
     pub fn version(&self) -> u64 {
         let mut number = 0;
         // SAFETY: the transaction is open.
@@ -205,22 +227,41 @@ impl<'s, E: Ending> Transaction<'s, E> {
         number
     }
 
-    /// Inserts a row. [`Error::Duplicate`], [`Error::Full`], [`Error::TypeMismatch`], [`Error::NoMemory`].
+    /// Inserts a row.
+    ///
+    /// # Errors
+    ///
+    /// - [`Error::Duplicate`]: a row with this key exists.
+    /// - [`Error::Full`]: the table would have more rows than [`Options::row_limit`](crate::Options::row_limit).
+    /// - [`Error::TypeMismatch`]: a cell doesn't fit its column, or there are too few or too many.
+    /// - [`Error::NoMemory`]: out of memory; nothing changed.
     pub fn insert<'c, C: Into<CellRef<'c>>>(&mut self, row: impl IntoIterator<Item = C>) -> Result<(), Error> {
         let row = Passed::of(row, self.table().columns())?;
         // SAFETY: the transaction is open; there are as many numbers as columns, and as many bytes as is said.
         done(unsafe { ffi::pdt_insert(self.raw(), row.numbers(), row.texts(), row.bytes()) })
     }
 
-    /// Deletes the row of a key. [`Error::Missing`], [`Error::TypeMismatch`], [`Error::NoMemory`].
+    /// Deletes the row of a key.
+    ///
+    /// # Errors
+    ///
+    /// - [`Error::Missing`]: no row has this key.
+    /// - [`Error::TypeMismatch`]: the key doesn't fit the key columns.
+    /// - [`Error::NoMemory`]: out of memory; nothing changed.
     pub fn delete<'c, C: Into<CellRef<'c>>>(&mut self, key: impl IntoIterator<Item = C>) -> Result<(), Error> {
         let key = self.key(key)?;
         // SAFETY: the transaction is open; there are as many numbers as key columns, and as many bytes as is said.
         done(unsafe { ffi::pdt_delete(self.raw(), key.numbers(), key.texts(), key.bytes()) })
     }
 
-    /// Sets one cell of the row of a key, in a column that is none of the key's. [`Error::Missing`],
-    /// [`Error::TypeMismatch`], [`Error::NoMemory`].
+    /// Sets one cell of the row of a key, in a column that isn't a key column.
+    ///
+    /// # Errors
+    ///
+    /// - [`Error::Missing`]: no row has this key.
+    /// - [`Error::TypeMismatch`]: the key doesn't fit the key columns, there is no such column, it is a key column, or
+    ///   the cell doesn't fit it.
+    /// - [`Error::NoMemory`]: out of memory; nothing changed.
     pub fn set<'c, 'd, C: Into<CellRef<'c>>>(
         &mut self,
         key: impl IntoIterator<Item = C>,
@@ -236,8 +277,11 @@ impl<'s, E: Ending> Transaction<'s, E> {
         done(unsafe { ffi::pdt_set(self.raw(), key.numbers(), key.texts(), key.bytes(), column, number, text) })
     }
 
-    /// Makes a savepoint of the transaction as it stands, to go back to. Savepoints nest: each is younger than those
-    /// before it. [`Error::NoMemory`].
+    /// Makes a savepoint, to roll back to. Savepoints nest.
+    ///
+    /// # Errors
+    ///
+    /// - [`Error::NoMemory`]: out of memory; nothing changed.
     ///
     /// ```
     /// use narthexmace::{Error, Options, Table};
@@ -258,9 +302,12 @@ impl<'s, E: Ending> Transaction<'s, E> {
         Ok(self.savepoints.push(level))
     }
 
-    /// Undoes the writes since a savepoint, as if they had never been asked for. The savepoint stays, and those after
-    /// it are gone. It takes no memory. [`Error::Missing`] of a savepoint that is gone, or of another transaction:
-    /// nothing changes.
+    /// Undoes all writes since a savepoint: a commit records none of them. The savepoint stays, and later ones are
+    /// gone. Takes no memory.
+    ///
+    /// # Errors
+    ///
+    /// - [`Error::Missing`]: the savepoint is gone, or is another transaction's; nothing changes.
     pub fn rollback_to(&mut self, savepoint: &Savepoint) -> Result<(), Error> {
         let level = self.savepoints.level(savepoint)?;
         // SAFETY: the transaction is open.
@@ -269,8 +316,11 @@ impl<'s, E: Ending> Transaction<'s, E> {
         Ok(())
     }
 
-    /// Forgets a savepoint and those after it; the writes stay. It takes no memory. [`Error::Missing`] as of
-    /// [`rollback_to`](Transaction::rollback_to).
+    /// Releases a savepoint and all later ones; their writes stay. Takes no memory.
+    ///
+    /// # Errors
+    ///
+    /// - [`Error::Missing`]: the savepoint is gone, or is another transaction's; nothing changes.
     pub fn release(&mut self, savepoint: Savepoint) -> Result<(), Error> {
         let level = self.savepoints.level(&savepoint)?;
         // SAFETY: the transaction is open.
