@@ -1,4 +1,4 @@
-//! Two clients on threads of their own commit over one journal in a file, which is then recovered.
+//! Two clients on threads of their own commit over one journal in a file, which is then recovered, opened again, and recovered whole.
 #![tactic(auto)]
 
 ghost use Rattle.std.specs.Prelude.{◌≡◌, ◌≤◌, [], length};
@@ -18,7 +18,7 @@ use replay::{FrameBytes, Image, Limits, recover};
 use shared::{ImageStore, NewOpening};
 use std::alloc::Global;
 use std::fs;
-use std::fs::File;
+use std::fs::{File, OpenOptions};
 use std::marker::Brand;
 use std::sync::Wait;
 use std::thread::{Threads, join};
@@ -34,9 +34,46 @@ const TABLE: u32 = 1;
 
 const TURNS: u64 = 5;
 
+/// The journal's file, in the folder that the program runs in.
+const PATH: &str = "clients.journal";
+
 fn main(rt: HostRuntime) -> anyhow::Result<()> {
     let alloc = rt.alloc();
-    let manager = manager_of(alloc, ROWS)?;
+    let journal = FileJournal::new(File::create(&rt, PATH)?, &[]);
+    run(&rt, alloc, manager_of(alloc, ROWS)?, journal)?;
+    let found = recovered(&rt)?;
+    println!(&rt; "{} commits are recovered", found.version().number())?;
+
+    // The journal is opened again behind these commits.
+    let bytes = fs::read(&rt, PATH)?;
+    let file = OpenOptions::new().append(true).open(&rt, PATH)?;
+    let mut manager = found;
+    manager.cut();
+    run(
+        &rt,
+        alloc,
+        manager,
+        FileJournal::new(file, bytes.as_slice()),
+    )?;
+    let found = recovered(&rt)?;
+    println!(&rt;
+        "{} commits of both are recovered",
+        found.version().number()
+    )?;
+    fs::remove_file(&rt, PATH)?;
+    Ok(())
+}
+
+/// Has two clients commit over a journal, with a store in memory.
+fn run<T: Threads + Wait + Sync>(
+    rt: &T,
+    alloc: Global,
+    manager: Manager,
+    journal: FileJournal,
+) -> anyhow::Result<()>
+    requires new { manager.history ≡ [] }
+    requires durable { length journal.appended ≤ journal.safe }
+{
     let mut devices: Vec<Box<dyn ColumnDevice + Send>> = Vec::new(alloc);
     for _ in 0..manager.version().schema().width() {
         devices.push(Box::new(alloc, memory_column(alloc)?)?)?;
@@ -49,18 +86,19 @@ fn main(rt: HostRuntime) -> anyhow::Result<()> {
     };
     let fresh = NewOpening::new(&manager, 2);
     let watermark = NewWatermark::new(alloc)?;
-    let journal = Appender::new(
-        alloc,
-        FileJournal::new(File::create(&rt, "clients.journal")?, &[]),
-        SEED,
-    );
+    let journal = Appender::new(alloc, journal, SEED);
     if !two_clients::<Brand, Store, FileJournal, _>(
-        &rt, alloc, manager, store, journal, fresh, watermark,
+        rt, alloc, manager, store, journal, fresh, watermark,
     ) {
         return Err(anyhow!("an answer isn't the one that is due"));
     }
-    let bytes = fs::read(&rt, "clients.journal")?;
-    fs::remove_file(&rt, "clients.journal")?;
+    Ok(())
+}
+
+/// The manager of what the journal's file has.
+fn recovered(rt: &HostRuntime) -> anyhow::Result<Manager> {
+    let alloc = rt.alloc();
+    let bytes = fs::read(rt, PATH)?;
     let image = Image {
         table: table_of(alloc, ROWS)?,
         number: 0,
@@ -75,12 +113,7 @@ fn main(rt: HostRuntime) -> anyhow::Result<()> {
         base: 0,
         bytes: bytes.as_slice(),
     };
-    let found = recover(alloc, image, limits, TABLE, frames)?;
-    println!(&rt;
-        "{} commits are recovered",
-        found.manager.version().number()
-    )?;
-    Ok(())
+    Ok(recover(alloc, image, limits, TABLE, frames)?.manager)
 }
 
 /// Opens two clients, each of which commits on a thread of its own, and closes them.
@@ -128,6 +161,18 @@ fn two_clients<
     good && ended.counts.as_slice() == [TURNS, TURNS].as_slice()
 }
 
+/// Whether an image is stored, whose commits the client knows to be durable.
+fn is_stored<O: DurableOpening, S: ImageStore, D: JournalDevice, T: Wait>(
+    rt: &T,
+    shared: &DurableShared<O, S, D>,
+    client: &mut DurableSession<O>,
+) -> bool {
+    match shared.checkpoint(client, rt) {
+        Ok(image) => client.reader.number() >= image.number,
+        Err(_) => false,
+    }
+}
+
 /// Whether two clients commit, each on a thread of its own.
 fn both_commit<
     O: DurableOpening + Send + Sync,
@@ -167,7 +212,7 @@ fn all_commit<
     both_commit(rt, alloc, shared, a, b)
 }
 
-/// Whether each commit of a client to a row of its own is answered as committed, and known to be safe.
+/// Whether each commit of a client to a row of its own is answered as committed, and known to be safe, and an image is stored then.
 fn takes_turns<O: DurableOpening, S: ImageStore, D: JournalDevice, T: Wait>(
     rt: &T,
     alloc: Global,
@@ -180,7 +225,7 @@ fn takes_turns<O: DurableOpening, S: ImageStore, D: JournalDevice, T: Wait>(
             return false;
         }
     }
-    true
+    is_stored(rt, shared, client)
 }
 
 /// Whether a commit of a client is answered as committed, and known to be safe.

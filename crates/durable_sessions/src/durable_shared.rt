@@ -1,5 +1,5 @@
 //! What durable sessions share: the locked state, the group log, and the calls that take them.
-ghost use Rattle.std.specs.Prelude.{◌≡◌, ◌≢◌, ◌+◌, ◌≤◌, ◌<◌, [], length, map, sum, IfErr, IfOk, OnOk, None, Some, Err, true, vec_capacity, vec_len};
+ghost use Rattle.std.specs.Prelude.{◌≡◌, ◌≢◌, All, ◌+◌, ◌≤◌, ◌<◌, [], length, map, sum, IfErr, IfOk, IsNone, IsSome, OnOk, None, Some, Err, true, vec_capacity, vec_len};
 ghost use Rattle.publishing.specs.Lists.{number_in};
 ghost use mathlib.Core.List.{IsPrefix};
 ghost use Rattle.model.specs.History.{IsLegal};
@@ -7,28 +7,31 @@ ghost use Rattle.shared.specs.Endings.{IsHandedOut};
 ghost use Rattle.shared.specs.Sessions.{WasReplied, WasTold, begun_in, new_seat, number_of};
 ghost use Rattle.std.specs.List.{range_with_len};
 ghost use Rattle.values.specs.declared.limits.TheConstants.{MAX_CLIENTS};
-ghost use Rattle.manager.specs.Managed.{IsManaged};
+ghost use Rattle.manager.specs.Managed.{IsManaged, newest_number};
 ghost use Rattle.durable_sessions.specs.Endings.{IsClosedDurably};
 ghost use Rattle.durable_sessions.specs.Queues.{IsDurable, WasCommitted};
 ghost use Rattle.durable_sessions.specs.Payloads.{payloads_in};
+ghost use Rattle.durable_sessions.specs.declared.fault.BeginFault.TheVariants as begin_fault;
 ghost use Rattle.durable_sessions.specs.declared.fault.CommitFault.TheVariants as commit_fault;
+ghost use Rattle.durable_sessions.specs.declared.fault.ImageFault.TheVariants as image_fault;
 
 use crate::durable_session::DurableSession;
-use crate::fault::{BeginFault, CommitFault};
+use crate::fault::{BeginFault, CommitFault, ImageFault};
 use crate::frame_queue::FrameQueue;
-use crate::locked_state::{Batch, LockedState};
+use crate::locked_state::{Batch, LockedState, StoredImage};
 use crate::opening_id::DurableOpening;
 use crate::published_prefix::PublishedPrefix;
 use crate::waiters::Waiters;
 use group_commit::{GroupLog, GroupLogParts, HistoryPrefix};
 use logging::{Appender, JournalDevice};
-use manager::{CheckpointFault, History, Manager};
+use manager::{History, Manager};
 use model::CommitReply;
 use shared::{
     BeginFault as SessionBeginFault, Closed, ImageStore, NewOpening, Parts, Session, ShareFault,
     close_parts, open_parts,
 };
 use std::alloc::Global;
+use std::mem;
 use std::sync::{Mutex, MutexGuard, Wait};
 use values::NoMemory;
 use values::limits::MAX_CLIENTS;
@@ -95,6 +98,7 @@ fn clients_of<O: DurableOpening, D: JournalDevice>(
     requires empty { clients.items ≡ [] }
     requires room { vec_len sessions ≤ vec_capacity clients }
     ensures sessions { map (λ c. c.session) result.items ≡ sessions.items }
+    ensures readers { All (λ c. c.reader ≡ group_log.old.watermark) result.items }
 {
     for session in sessions {
         let reader = group_log.reader(watermark);
@@ -126,6 +130,9 @@ pub fn open<O: DurableOpening, S: ImageStore, D: JournalDevice, R: Wait>(
     requires frames { (journal.frames.seed ≡ O.seed) × (journal.frames.table ≡ O.table) }
     requires base { (O.base ≡ O.opened.manager.start.base) × (O.opened.manager.history ≡ []) }
     ensures clients { IfOk result (λ r. map (λ c. c.session) r.clients.items ≡ map new_seat (range_with_len 0 clients)) }
+
+    // What was there at the opening is known to be durable.
+    ensures durable { IfOk result (λ r. All (λ c. c.reader ≡ O.base) r.clients.items) }
     ensures limit { OnOk result ((1 ≤ clients) × (clients ≤ MAX_CLIENTS)) }
 {
     if clients == 0 || clients > MAX_CLIENTS {
@@ -148,6 +155,8 @@ pub fn open<O: DurableOpening, S: ImageStore, D: JournalDevice, R: Wait>(
     let (watermark, writer) = watermark.named::<O>();
     let list = PublishedPrefix::new(locked.list());
     let mut group_log = GroupLog::new(log, list.again(), base, writer);
+    // The commits before the opening are durable: a begin over them waits for nothing.
+    group_log.advance(wait, &watermark);
     let queue = FrameQueue::new(alloc, frames.seed, frames.table);
     let state = LockedState::new(locked, list, queue, group_log.reader(&watermark));
     let clients = clients_of(sessions, &mut group_log, &watermark, reserved);
@@ -181,6 +190,8 @@ impl<O: DurableOpening, S: ImageStore, D: JournalDevice> DurableShared<O, S, D> 
         ensures told { IfOk result (λ reply. WasTold O.opened.manager client.new.session (number_of reply)) }
         ensures unsure { result ≡ Err commit_fault.Unsure → WasCommitted O.opened.manager client.old.session client.new.session }
         ensures ended { OnOk result ((client.new.session.txn ≡ None) × (client.new.session.count ≡ client.old.session.count + 1)) }
+        ensures counted { result ≡ Err commit_fault.Unsure
+            → (client.new.session.txn ≡ None) × (client.new.session.count ≡ client.old.session.count + 1) }
         ensures err { IfErr result (λ fault. fault ≢ commit_fault.Unsure → client.new.session ≡ client.old.session) }
         ensures undecided { result ≡ Err commit_fault.NotOpen → client.old.session.txn ≡ None }
         ensures stranger { result ≡ Err commit_fault.Stranger
@@ -219,6 +230,15 @@ impl<O: DurableOpening, S: ImageStore, D: JournalDevice> DurableShared<O, S, D> 
         ensures ok { OnOk result (client.new.session.txn ≡ Some (begun_in O.opened.manager client.new.session.seen client.old.session.client)) }
         ensures durable { OnOk result (number_in O.opened.manager client.new.session.seen ≤ client.new.reader) }
         ensures seen { IsPrefix client.old.session.seen client.new.session.seen }
+
+        // What it opens over is all that the session has then seen.
+        ensures begun { OnOk result (IsNone client.old.session.txn) }
+        ensures already { result ≡ Err begin_fault.AlreadyOpen → IsSome client.old.session.txn }
+        ensures err { IfErr result (λ fault. fault ≢ begin_fault.NotDurable → client.new.session ≡ client.old.session) }
+        ensures given_up { result ≡ Err begin_fault.NotDurable
+            → (client.old.session.txn ≡ None) × (client.new.session ≡ record client.old.session { seen = client.new.session.seen }) }
+        ensures same { (client.new.session.client ≡ client.old.session.client) × (client.new.session.count ≡ client.old.session.count)
+            × (client.new.session.note ≡ client.old.session.note) }
         ensures later { client.old.reader ≤ client.new.reader }
     {
         match client.session.begin() {
@@ -250,15 +270,28 @@ impl<O: DurableOpening, S: ImageStore, D: JournalDevice> DurableShared<O, S, D> 
         outcome
     }
 
-    /// Writes the newest image to the store, as `Shared::checkpoint`. Waits for the lock.
+    /// Writes the newest image to the store, as `Shared::checkpoint`. All of its commits are durable before the store gets it, so that no
+    /// crash leaves an image ahead of the journal. No commit is decided meanwhile. Waits for both locks.
     ///
     /// # Errors
     ///
-    /// As those of `Manager::checkpoint`.
-    pub fn checkpoint<R: Wait>(&self, wait: &R) -> Result<u32, CheckpointFault> {
+    /// `JournalFailed` where the device has failed, or fails over what waits: the store isn't asked. `Unstored` as `Manager::checkpoint`.
+    pub fn checkpoint<R: Wait>(
+        &self,
+        client: &mut DurableSession<O>,
+        wait: &R,
+    ) -> Result<StoredImage, ImageFault>
+        ensures durable { IfOk result (λ image. image.number ≤ client.new.reader) }
+        ensures session { client.new.session ≡ client.old.session }
+        ensures later { client.old.reader ≤ client.new.reader }
+    {
+        let mut group_log = self.group_log.lock(wait);
         let mut state = self.state.lock(wait);
-        let outcome = state.checkpoint(wait);
+        let outcome = self.store_durable(wait, &mut group_log, &mut state, &mut client.reader);
         MutexGuard::unlock(state);
+        MutexGuard::unlock(group_log);
+        // Those who wait for what was written, or for the device, go on.
+        self.waiters.wake_all(wait);
         outcome
     }
 
@@ -327,6 +360,43 @@ impl<O: DurableOpening, S: ImageStore, D: JournalDevice> DurableShared<O, S, D> 
         state.fail();
         MutexGuard::unlock(state);
         false
+    }
+
+    /// Writes the frames of all that wait, advances the watermark and the reader, and has the image stored, whose commits these are the
+    /// last of.
+    fn store_durable<R: Wait>(
+        &self,
+        wait: &R,
+        group_log: &mut GroupLog<PublishedPrefix<O>, D, O>,
+        state: &mut LockedState<O, S>,
+        reader: &mut WatermarkReader<O>,
+    ) -> Result<StoredImage, ImageFault>
+        ensures durable { IfOk result (λ image. image.number ≤ reader.new) }
+        ensures newest { IfOk result (λ image. image.number ≡ newest_number state.old.manager) }
+        ensures later { reader.old ≤ reader.new }
+        ensures unasked { result ≡ Err image_fault.JournalFailed → state.new ≡ state.old }
+    {
+        let batch = state.take(Vec::new(self.alloc));
+        let Batch {
+            from,
+            to,
+            number,
+            bytes,
+        } = batch;
+        if group_log
+            .write(&from, to, number, bytes.as_slice())
+            .is_err()
+        {
+            state.fail();
+            return Err(ImageFault::JournalFailed);
+        }
+        group_log.advance(wait, &self.watermark);
+        let before = mem::replace(reader, group_log.reader(&self.watermark));
+        group_log.retire(wait, &self.watermark, before);
+        match state.checkpoint(wait) {
+            Ok(image) => Ok(image),
+            Err(fault) => Err(ImageFault::Unstored(fault)),
+        }
     }
 
     /// Takes the sessions back, and gives the manager, the store, the journal, and how many commit replies each session got. Open

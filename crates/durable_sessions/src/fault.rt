@@ -1,4 +1,5 @@
-//! Why a commit isn't acknowledged, and why a session doesn't begin.
+//! Why a commit isn't acknowledged, why a session doesn't begin, and why no image is stored.
+use manager::CheckpointFault;
 use thiserror::Error;
 
 /// Why a commit isn't acknowledged.
@@ -39,4 +40,15 @@ pub enum BeginFault {
     /// The device failed over a commit of the newest version. Recovery decides whether that commit is kept.
     #[error("NotDurable")]
     NotDurable,
+}
+
+/// Why no image of durable commits is stored.
+#[derive(Clone, Copy, Debug, PartialEq, Eq, Error)]
+pub enum ImageFault {
+    /// The device failed before the commits of the image were durable. The store wasn't asked.
+    #[error("JournalFailed")]
+    JournalFailed,
+    /// The store doesn't have it.
+    #[error("{0}")]
+    Unstored(CheckpointFault),
 }

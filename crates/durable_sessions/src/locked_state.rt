@@ -1,6 +1,7 @@
 //! What is under the lock: the state of the sessions, and the queue of frames that aren't written yet.
-ghost use Rattle.std.specs.Prelude.{◌≡◌, ◌+◌, ◌<◌, [], length, IfOk, OnErr, OnOk, Err, None};
+ghost use Rattle.std.specs.Prelude.{◌≡◌, ◌+◌, ◌<◌, [], length, IfOk, MatchResult, OnErr, OnOk, Err, None};
 ghost use Rattle.group_commit.specs.Batch.{IsBatch};
+ghost use Rattle.manager.specs.Managed.{newest_number, rebuilt_of};
 ghost use Rattle.model.specs.History.{IsLegal};
 ghost use Rattle.publishing.specs.Lists.{IsOfList, number_in};
 ghost use Rattle.shared.specs.Sessions.{WasReplied, WasTold, number_of};
@@ -54,6 +55,14 @@ pub struct Batch<O: DurableOpening> {
     /// The number of the newest commit.
     pub number: u64,
     pub bytes: Vec<u8>,
+}
+
+/// An image that is stored.
+#[derive(Clone, Copy, Debug, PartialEq, Eq)]
+pub struct StoredImage {
+    pub generation: u32,
+    /// The number of the newest of its commits.
+    pub number: u64,
 }
 
 impl<O: DurableOpening, S: ImageStore> LockedState<O, S> {
@@ -157,8 +166,15 @@ impl<O: DurableOpening, S: ImageStore> LockedState<O, S> {
     /// # Errors
     ///
     /// As those of `Manager::checkpoint`.
-    pub fn checkpoint<R: Wait>(&mut self, rt: &R) -> Result<u32, CheckpointFault> {
-        self.locked.checkpoint(rt)
+    pub fn checkpoint<R: Wait>(&mut self, rt: &R) -> Result<StoredImage, CheckpointFault>
+        ensures number { IfOk result (λ image. image.number ≡ newest_number self.old.manager) }
+        ensures manager { MatchResult result (λ _. self.new.manager ≡ rebuilt_of self.old.manager) (λ _. self.new.manager ≡ self.old.manager) }
+    {
+        let number = self.locked.manager().version().number();
+        match self.locked.checkpoint(rt) {
+            Ok(generation) => Ok(StoredImage { generation, number }),
+            Err(fault) => Err(fault),
+        }
     }
 
     /// Hands out the history so far, as `Locked::cut`. The queue stays.
@@ -178,12 +194,15 @@ impl<O: DurableOpening, S: ImageStore> LockedState<O, S> {
         ensures waiting { IsBatch O.seed O.base (payloads_in O.opened.manager O.table result.from)
             (payloads_in O.opened.manager O.table result.to) result.bytes.items }
         ensures number { result.number ≡ O.base + length (payloads_in O.opened.manager O.table result.to) }
+        ensures newest { result.number ≡ newest_number self.old.manager }
         ensures to { result.to ≡ self.old.list }
         ensures same { self.new ≡ self.old }
     {
         let to = PublishedPrefix::new(self.locked.list());
         let from = mem::replace(&mut self.from, to.again());
         let number = to.number();
+        // Called for what its clauses tell.
+        let _manager = self.locked.manager();
         let bytes = self.queue.take(spare);
         Batch {
             from,

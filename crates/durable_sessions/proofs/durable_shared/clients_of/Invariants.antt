@@ -1,4 +1,5 @@
 use Rattle.std.proofs.Common.{◌≡◌, ◌≤◌, length, map, vec_capacity, vec_len}
+use Rattle.std.specs.List.{All}
 use Rattle.durable_sessions.proofs.durable_shared.clients_of.Given as goal
 
 abbrev pub invariant-loop-session : goal.invariant-loop-session
@@ -8,4 +9,6 @@ invariant-loop-session g l = record {
   sessions : map (λ c. c.session) l.clients.items ≡ l.yielded;
   len : vec_len l.clients ≡ length l.yielded;
   room : vec_len l.fn.sessions ≤ vec_capacity l.clients;
+  log : l.group_log ≡ l.fn.group_log;
+  readers : All (λ c. c.reader ≡ l.fn.group_log.watermark) l.clients.items;
 }

@@ -15,6 +15,7 @@ returns-in_default g c =
       told = search rules;
       unsure = search rules;
       ended = search rules;
+      counted = λ is. absurd (cc (is));
       err = search rules;
       undecided = search rules;
       stranger = λ is. absurd (cc (is));

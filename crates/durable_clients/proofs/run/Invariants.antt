@@ -1,5 +1,5 @@
 -- The opening is the one of its book, its ledger, its journal and its watermark.
-use Rattle.durable_clients.proofs.main.Given as goal
+use Rattle.durable_clients.proofs.run.Given as goal
 
 abbrev pub ghosts-two_clients-O-Ledger : goal.ghosts-two_clients-O-Ledger
 ghosts-two_clients-O-Ledger g a = record { name = a.fresh.blank.name; parts = a.fresh.blank.parts }
