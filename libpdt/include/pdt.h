@@ -447,7 +447,7 @@ const char *pdt_column_name(const pdt_table *table, size_t column);
  * pdt_fold() keeps commits fast, pdt_checkpoint() keeps scans fast, pdt_trim() frees memory.
  * @{ */
 
-/** What grows in a table between folds and checkpoints. */
+/** The sizes of those parts of a table that grow between folds and checkpoints. */
 typedef struct pdt_sizes {
   uint64_t commits;         /**< the number of the newest version, as of pdt_txn_version() */
   size_t write_entries;     /**< entries of the Write-PDT, which a fold moves into the Read-PDT */
@@ -698,7 +698,7 @@ pdt_code pdt_checkpoint_read(pdt_open_checkpoint *checkpoint, pdt_txn **txn);
  * @param checkpoint  a checkpoint that pdt_checkpoint_write() has written
  * @retval PDT_OK          the checkpoint is installed
  * @retval PDT_SUPERSEDED  a fold, or the begin or the install of another checkpoint, came since the
- *                         begin: nothing changes in memory. What was written stays valid: it is the
+ *                         begin: nothing changes in memory. The written checkpoint stays valid, with the
  *                         version of the begin
  * @retval PDT_NOMEM       out of memory; the call may be repeated
  * @retval PDT_MISUSE      `checkpoint` is null, isn't written, or is installed already, or this

@@ -270,7 +270,7 @@ pdt_code pdt_txn_arrow(pdt_txn *txn, const pdt_arrow_column *columns, size_t cou
 
 /* ---- in */
 
-/** What is wrong with columns that come in, and where. */
+/** A fault in incoming columns: its cause and its place. */
 typedef struct pdt_arrow_fault {
   size_t size;     /**< `sizeof(pdt_arrow_fault)`, set by the caller, also of an earlier or a later header */
   pdt_place place; /**< the row, from 0 over all batches: the first row of a batch for the batch as a whole; and the column
@@ -331,7 +331,7 @@ pdt_code pdt_open_arrow(struct ArrowArrayStream *stream, const char *const *key,
 pdt_code pdt_table_create_arrow(pdt_database *database, const char *name, struct ArrowArrayStream *stream, const char *const *key,
                                 size_t keys, const pdt_options *options, pdt_arrow_fault *fault, pdt_table **table);
 
-/** What to do with each row that comes in. */
+/** The operation applied to each incoming row. */
 enum pdt_apply {
   PDT_APPLY_INSERT = 1, /**< insert it, as pdt_insert() does */
   PDT_APPLY_UPSERT = 2, /**< insert it, or set all cells but the key's of the row that has its key */

@@ -104,7 +104,7 @@ class Script:
             return [[type(refused).__name__]]
 
     def refusal(self, verb: str, cells: List[Cell]) -> Optional[Answer]:
-        """What a call is answered whose cells don't fit, though they are of their types."""
+        """The reply to a call whose cells have the right types but can't be taken; None if they can."""
         if verb not in ("insert", "delete", "set", "get", "rank"):
             return None
         for place, cell in enumerate(cells[: len(self.key)] if verb == "set" else cells):

@@ -104,7 +104,7 @@ def _capsules() -> _Capsules:
 
 
 class Source(Protocol):
-    """What has rows: the handle of a pin, or of a transaction."""
+    """A handle with rows: that of a pin, or of a transaction."""
 
     def arrow(self, *given: Any) -> int:
         """C's call that makes a stream of them."""

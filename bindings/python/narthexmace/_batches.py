@@ -1,4 +1,4 @@
-"""What a scan hands out: batches of columns, texts, and spans that lie in the library's memory."""
+"""The results of a scan: batches of columns, texts, and spans over the library's memory."""
 from __future__ import annotations
 
 from itertools import islice

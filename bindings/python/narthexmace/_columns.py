@@ -1,4 +1,4 @@
-"""Columns as C is handed them: where their numbers lie, or the bytes of their texts, or their booleans."""
+"""Columns in the form that C takes: the address of their numbers, their booleans, or the bytes of their texts."""
 from __future__ import annotations
 
 import ctypes
@@ -18,7 +18,7 @@ _TYPES = {"int": 1, "text": 2, "bool": 3}
 
 
 class PassedColumns:
-    """Columns for ``pdt_open_columns``. What they point to is there as long as this is."""
+    """Columns for ``pdt_open_columns``. This object keeps the memory that they point to."""
 
     def __init__(self, columns: Sequence[Named]) -> None:
         self._kept: List[Any] = []
@@ -48,7 +48,7 @@ class PassedColumns:
         return [written(column, write, cell) for cell in column.cells]
 
     def _place_of(self, values: Values) -> int:
-        """Where values lie, which are kept. Those that nobody may write are copied, since Python lends no others."""
+        """The address of values, which are kept. A read-only buffer is copied, since ctypes takes no address of one."""
         view = memoryview(values).cast("B")
         if not len(view):
             return 0

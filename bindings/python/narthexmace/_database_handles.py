@@ -139,7 +139,7 @@ class DatabaseHandle(Shared):
 
 
 class TableHandle(LoneHandle):
-    """The address of a table, whose database frees it. Who has it keeps the database open."""
+    """The address of a table, which its database frees. The handle keeps the database open."""
 
     kind = "table"
 
@@ -207,7 +207,7 @@ class TableHandle(LoneHandle):
 
 
 class _DatabaseTransactionAddress(Address):
-    """The address of an open database transaction, which is aborted when nobody keeps this any more."""
+    """The address of an open database transaction, which is aborted when the last reference to this goes."""
 
     __slots__ = ("database",)
 
@@ -292,7 +292,7 @@ class DatabaseTransactionHandle(Single):
             self._lock.release()
 
     def commit(self, number: c_uint64) -> int:
-        """Commits, and answers C's code; a number that was told says that the database transaction is over."""
+        """Commits, and returns C's code. If C has written ``number``, the database transaction is over."""
         take(self._lock)
         try:
             if self._address is None or self._address.room.value is None:

@@ -136,8 +136,8 @@ class DatabaseSnapshot(Single):
 class DatabaseTransaction(DatabaseSnapshot):
     """A transaction over all tables of a database, as of its begin, with its own writes. From ``Database.begin``.
 
-    ``txn["items"]`` is the transaction on a table, with all its reads, writes and savepoints. What it writes into any
-    of them is committed as one commit with one number, or not at all. With ``with`` it commits at the end of the block,
+    ``txn["items"]`` is the transaction on a table, with all its reads, writes and savepoints. Its writes to all
+    tables are committed as one commit with one number, or not at all. With ``with`` it commits at the end of the block,
     and aborts at an exception. One that is dropped while it is open is aborted. One thread at a time uses it.
     """
 

@@ -1,4 +1,4 @@
-"""What the ints of a declared column stand for, as values of Python's: float, date, datetime, Decimal, or None."""
+"""Python's values for the ints of a declared column: float, date, datetime, Decimal, or None."""
 from __future__ import annotations
 
 import re
@@ -27,7 +27,7 @@ class Declared(NamedTuple):
 
 
 def declared_as(format_: str) -> Optional[Declared]:
-    """What a format declares; None where a column's values are its ints, as those of times and durations."""
+    """The declaration of a format; None where a column's values are its ints, as for times and durations."""
     if format_.startswith("?"):
         return _with_nulls(declared_as(format_[1:]) or Declared(int, _number))
     if format_ == "g":
@@ -64,7 +64,7 @@ def _bounded(number: int, value: object) -> int:
 
 
 def _with_nulls(kind: Declared) -> Declared:
-    """The same with None, for which the least number stands: no value has that."""
+    """The same with None, which is stored as the least number: no other value has that number."""
 
     def value(number: int) -> Any:
         return None if number == LEAST else kind.value(number)

@@ -1,4 +1,4 @@
-"""What a call raises where the library answers another code than PDT_OK."""
+"""The exceptions that a call raises where the library returns another code than PDT_OK."""
 from __future__ import annotations
 
 import ctypes
@@ -184,7 +184,7 @@ class ReadOnly(Misuse, AttributeError):
 
 
 class _OfFiles(Error, OSError):
-    """What the files of a folder are refused for: ``errno`` says why, and ``filename`` is the folder."""
+    """An error about the files of a folder: ``errno`` has the cause, and ``filename`` is the folder."""
 
     def __init__(self, sentence: Optional[str] = None, errno: Optional[int] = None, filename: Any = None) -> None:
         super().__init__(sentence)
@@ -253,7 +253,7 @@ class Locked(_OfFiles, BlockingIOError):
 
 
 class _OfDatabase(_OfFiles):
-    """What the files of a database are refused for. ``filename`` is the damaged or missing file, or the folder."""
+    """An error about the files of a database. ``filename`` is the damaged or missing file, or the folder."""
 
     #: The file that it is about, by its name in the folder, or None.
     file: Optional[str] = None

@@ -18,7 +18,7 @@ from ._library import NO_NUMBER, library
 
 
 class Single:
-    """What stands for an object of C, of which there is one: it is neither copied nor pickled, which is TypeError."""
+    """The only handle of an object of C. Copying or pickling it is TypeError."""
 
     __slots__ = ()
 
@@ -269,7 +269,7 @@ class LoneHandle(Shared):
             return shaping_at(at)
 
     def owner(self) -> Shared:
-        """What is freed with the last thing that is open over it."""
+        """The table or database that is freed with the last object that is open over it."""
         return self
 
     def has_numbered(self, number: int) -> bool:

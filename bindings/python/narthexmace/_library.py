@@ -246,8 +246,8 @@ _CALLS = {
 
 
 def _places() -> list[Path]:
-    """Where the library may lie: where the environment says; or else in the package, or where `make libpdt` builds
-    it."""
+    """Where the library may be: at the path that the environment names; or else in the package, or where `make libpdt`
+    builds it."""
     named = os.environ.get(PLACE)
     if named:
         return [Path(named)]

@@ -20,8 +20,8 @@ class Calls(NamedTuple):
     """C's calls that open a table over a text, columns and a stream: a table outside a database, or in a database,
     which has it.
 
-    The first two take what the columns are declared as before the rest. Of a table outside a database they leave it to
-    ``declare``.
+    The first two take the formats of declared columns before their other arguments. For a table outside a database they
+    don't use them: ``declare`` does.
     """
 
     text: Callable[..., int]
@@ -94,7 +94,7 @@ def _over_columns(
     options: Options,
     room: c_void_p,
 ) -> None:
-    """Columns in ascending key go into the table from where they lie; others are sorted, by way of a text."""
+    """Opens the table over columns. Rows in ascending key are read in place; others are sorted, by way of a text."""
     named = named_columns(columns, key, types)
     passed, place, keys = PassedColumns(named), PlaceOf(), sum(column.key for column in named)
     declared = formats_of(types)

@@ -136,7 +136,7 @@ _COLOURS = {INSERT: GREEN, DELETE: RED, MODIFY: YELLOW}
 
 
 def _word(entry: Entry) -> str:
-    """What an entry does, as +25,Dee,4 or -20 or qty=5."""
+    """The change of an entry, as +25,Dee,4 or -20 or qty=5."""
     if entry.kind == INSERT:
         return f"+{_fields(entry.values)}"
     if entry.kind == DELETE:

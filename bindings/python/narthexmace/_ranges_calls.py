@@ -96,7 +96,7 @@ class Range:
         return Asked(self, method, given)
 
     def opens(self, address: str, term: Term, seconds: float) -> None:
-        """Has a worker open the range, which waits so many seconds for a dying owner's lock."""
+        """Has a worker open the range, which waits up to ``seconds`` for a dying owner's lock."""
         with warnings.catch_warnings():  # rows that go once, into a table that is made, need no other way
             warnings.filterwarnings("ignore", "Large object of size")
             task = self._client.submit(

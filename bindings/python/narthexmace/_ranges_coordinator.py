@@ -109,7 +109,7 @@ class Coordinator:
         return self._vector
 
     def name(self) -> str:
-        """A name for a transaction that begins: after it was told, its own number is this one or a later one."""
+        """A name for a transaction that begins. Its commit gets the number in the name, or a later one."""
         return f"{self._next}-{uuid.uuid4().hex}"
 
     def _term(self) -> Term:
@@ -162,7 +162,7 @@ class Coordinator:
         return self._publish({place: version})
 
     def _after_doubt(self, doubt: _Doubt, why: Exception) -> Vector:
-        """What became of a commit whose answer did not come: the range's own numbers tell, once it is reached."""
+        """Resolves a commit whose reply was lost: the range has the outcome in its own numbers, once it is reached."""
         self._outcomes[doubt.name] = IN_DOUBT
         try:
             self._reach(doubt.place, Deadline(self.seconds))
@@ -198,7 +198,7 @@ class Coordinator:
         return self._vector
 
     def _votes(self, name: str, places: Sequence[int], deadline: Deadline) -> Dict[int, Any]:
-        """What a transaction writes into each range, or why one of them refuses it."""
+        """The writes of a transaction to each range, or why one of the ranges refuses it."""
         asked = {place: self.ranges[place].ask("prepare", self.ranges[place].term, name) for place in places}
         votes, refusal = {}, None
         for place, it in asked.items():
@@ -324,7 +324,7 @@ class Coordinator:
         return min(addresses, key=lambda address: (address == last, owned.count(address)))
 
     def outcome(self, name: str) -> str:
-        """What is known of a transaction by its name. Misuse, where it is the name of none, or once it is closed."""
+        """The known outcome of a transaction. Misuse if it is the name of none, or once the coordinator is closed."""
         if not re.fullmatch("[0-9]+-[0-9a-f]{32}", name):
             raise Misuse(f"{name!r} is no name of a transaction")
         known = self._outcomes.get(name, IN_DOUBT)
@@ -338,7 +338,7 @@ class Coordinator:
             return self._outcomes.get(name, IN_DOUBT)
 
     def _outcome(self, name: str, deadline: Deadline) -> str:
-        """What the log or the ranges say of a transaction."""
+        """The outcome of a transaction by the log or by the ranges."""
         if self._decided is not None and self._decided.name == name:
             return COMMITTED
         if self._log.failed:

@@ -1,4 +1,4 @@
-"""What a table in ranges raises besides what a table does."""
+"""The exceptions of a table in ranges, besides those of a table."""
 from __future__ import annotations
 
 from typing import Optional

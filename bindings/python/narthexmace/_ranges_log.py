@@ -35,7 +35,7 @@ def line_of(record: object) -> bytes:
 
 
 def record_of(line: bytes) -> Any:
-    """What a whole line says; None of a line that is cut short or damaged."""
+    """The record in a whole line; None for a line that is cut short or damaged."""
     text = line[18:-1]
     return json.loads(text) if line == b"%08x %08x %s\n" % (zlib.crc32(text), len(text), text) else None
 

@@ -30,7 +30,7 @@ Term = Tuple[int, int]
 
 
 class First(NamedTuple):
-    """What a range is made of: its rows by columns, as they are kept, their formats, and the options of its table."""
+    """The contents of a new range: its rows by columns, as they are kept, their formats, and its table's options."""
 
     columns: Dict[str, Any]
     key: Sequence[str]
@@ -233,11 +233,11 @@ class Owner:
             return row
 
     async def map(self, version: int, function: Callable[..., Any], given: Sequence[Any]) -> Any:
-        """What a function answers of a snapshot of a version, while commits go on."""
+        """The result of a function of a version's snapshot. It runs in another thread, while commits go on."""
         return await asyncio.get_running_loop().run_in_executor(None, self.read, version, function, given)
 
     def read(self, version: int, function: Callable[..., Any], given: Sequence[Any] = ()) -> Any:
-        """The same in the thread that asks."""
+        """Like ``map``, in the caller's thread."""
         with self._pin_of(version).read() as table:
             return function(table, *given)
 
@@ -292,7 +292,7 @@ _CALLS: Dict[str, Callable[..., Any]] = {
 
 
 def _effects_of(txn: Transaction, key_columns: int) -> Effects:
-    """What a transaction writes, by keys: deletes first, since a row that is replaced is a delete and an insert.
+    """The writes of a transaction, by keys: deletes first, since a row that is replaced is a delete and an insert.
 
     Cells are as they are kept: the log has ints, texts and booleans.
     """

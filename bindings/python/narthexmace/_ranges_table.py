@@ -412,7 +412,7 @@ class Ranges(Single):
         return self._coordinator.ranges[place].ask(method, *given)
 
     def _all(self, method: str, given: Mapping[int, Tuple[Any, ...]]) -> List[Any]:
-        """What some ranges answer to a read, each to what is given for it. They are asked again where a worker dies."""
+        """The replies of ranges to a read, each with its own arguments. They are asked again where a worker dies."""
         try:
             return self._once(method, given)
         except Gone:

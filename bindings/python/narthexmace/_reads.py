@@ -22,7 +22,7 @@ _WORD = 8
 
 
 def column_of(at: int, type_: str, place: int, first: int, count: int) -> Any:
-    """So many cells of a column from a position on, as ``Batch`` has them."""
+    """``count`` cells of a column from a position on, as ``Batch`` has them."""
     if type_ == INT:
         return _ints(at, place, first, count)
     return _truths(at, place, first, count) if type_ == BOOL else _texts(at, place, first, count)
@@ -50,7 +50,7 @@ def _truths(at: int, place: int, first: int, count: int) -> memoryview:
 
 
 def _texts(at: int, place: int, first: int, count: int) -> Texts:
-    """The texts of a column. C says where they lie, and those that lie one after the other are copied at once."""
+    """The texts of a column. C returns their addresses, and adjacent texts are copied at once."""
     joined = _Joined()
     places, sizes = bytearray(_WORD * BLOCK), bytearray(_WORD * BLOCK)
     rooms = [(c_int64 * BLOCK).from_buffer(room) for room in (places, sizes)]
@@ -81,8 +81,8 @@ def _copied(at: int, place: int, first: int, sizes: array[int]) -> bytes:
 class _Joined:
     """Texts that are put one after the other.
 
-    What is done to each text of a run is done to all at once, since Python takes long for each: addresses and sizes are
-    summed up as one long number, in which each has a word. No sum of two carries into the next word.
+    A run's texts are added all at once, since Python takes long for each. Their addresses and sizes are summed up as
+    one long number, in which each has a word. No sum of two carries into the next word.
     """
 
     def __init__(self) -> None:
@@ -92,7 +92,7 @@ class _Joined:
         self._end = 0
 
     def add_runs(self, starts: Sequence[int], places: bytes, sizes: bytes) -> None:
-        """Adds texts by where they lie and how many bytes they have, in words, and where each run of them starts."""
+        """Adds texts, given their addresses and sizes in bytes, as words, and the start of each run of them."""
         address, size = memoryview(places).cast("q"), memoryview(sizes).cast("q")
         was, becomes = [], []
         for start, stop in zip(starts, [*starts[1:], len(address)]):
@@ -167,7 +167,7 @@ def aligned(columns: Sequence[List[Any]]) -> Sequence[List[Any]]:
 
 
 def _cut_at(runs: Sequence[Any], ends: Sequence[int]) -> List[Any]:
-    """The same numbers in arrays that end at these rows, of which all ends of the runs are some."""
+    """The same numbers in arrays that end at these rows. Each run ends at one of them."""
     cut: List[Any] = []
     upcoming, row = iter(ends), 0
     for run in runs:
@@ -181,7 +181,7 @@ def _cut_at(runs: Sequence[Any], ends: Sequence[int]) -> List[Any]:
 
 
 def _room(size: int) -> bytearray:
-    """So many bytes for C to fill: CPython makes them without writing zeros first."""
+    """``size`` bytes for C to fill. CPython allocates them without writing zeros first."""
     made: bytearray = _make(None, size) if _make else bytearray(size)
     return made
 

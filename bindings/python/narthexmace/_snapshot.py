@@ -428,7 +428,7 @@ class Snapshot(Single):
     def to_pandas(self, columns: Optional[Sequence[str]] = None) -> "DataFrame":
         """Return the rows as a DataFrame of pandas.
 
-        The dtype of a column depends on its format alone: int64, bool, and object for texts. Of declared columns,
+        The dtype of a column depends on its format alone: int64, bool, and object for texts. In declared columns,
         doubles ("g") are float64; timestamps are datetime64[ns], of UTC if they have a time zone; dates and Decimals
         are Python's own values, of dtype object. Other ints are int64, and Int64 with "?" before their format. None is
         NaN, NaT or ``pandas.NA``.

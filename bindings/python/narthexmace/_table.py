@@ -24,7 +24,7 @@ from ._transaction import Transaction
 
 
 class Sizes(NamedTuple):
-    """What grows in a table between folds and checkpoints.
+    """The sizes of those parts of a table that grow between folds and checkpoints.
 
     Attributes
     ----------
@@ -239,9 +239,9 @@ class Table(Single):
 
     Any threads may use it at once; each transaction is for one thread at a time.
 
-    A table outside a database, from ``open`` or ``recover``, is in memory. What a checkpoint has written is durable;
-    commits since the last one are lost with the process, and with ``close``. It needs explicit maintenance: ``sizes``
-    reports what has grown.
+    A table outside a database, from ``open`` or ``recover``, is in memory. Its checkpoints are durable. Commits since
+    the last one are lost with the process, and with ``close``. It needs explicit maintenance: ``sizes`` reports what
+    has grown.
 
     A table of a database, from ``connect``, is durable and needs no maintenance. Its numbers are those of the database:
     a commit that changed other tables takes a number here too.
@@ -641,7 +641,7 @@ class Table(Single):
             layer = self._layer_of(number, newest)
 
     def _layer_of(self, number: int, newest: int) -> Layer:
-        """What the commit of a number changed. NotKept, where that is to be told no more."""
+        """The changes of the commit of a number. NotKept if they are no longer retained."""
         layer = Layer("commit", self._shaping)
         with self._handle as at:
             code = library.pdt_changes(at, number, byref(layer.room))
@@ -727,7 +727,7 @@ class Table(Single):
     ) -> None:
         """Closes the table; at an exception it is closed with the last of its transactions and pins.
 
-        Of a table of a database nothing is done.
+        A table of a database stays open.
         """
         if self._handle.name is not None:
             return

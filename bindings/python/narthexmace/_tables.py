@@ -161,7 +161,7 @@ def _numbers(column: Union[Named, Column], declared: Declared, given: Any) -> Li
 
 
 def declared_by(type_: Optional[str]) -> Optional[Declared]:
-    """What a column is declared as whose type is a format of Arrow's, as "tdD"."""
+    """The declaration of a column whose type is a format of Arrow's, as "tdD"; None for other types."""
     return declared_as(type_) if type_ is not None and type_ not in _WRITERS else None
 
 
@@ -191,7 +191,7 @@ def text_of_columns(columns: Iterable[Named]) -> bytes:
 
 
 def type_of_array(array: memoryview) -> Optional[str]:
-    """The type of an array whose values lie as C has them."""
+    """The type of an array whose values have C's layout; None for other arrays."""
     if array.ndim == 1 and array.c_contiguous:
         if array.format in ("q", "l") and array.itemsize == 8:
             return INT
@@ -201,7 +201,7 @@ def type_of_array(array: memoryview) -> Optional[str]:
 
 
 def array_of(cells: Iterable[Any]) -> Optional[memoryview]:
-    """An array of numbers of 64 bits or of booleans, where they lie; none of other cells."""
+    """An array of 64-bit numbers or of booleans, zero-copy; None for other cells."""
     try:
         array = memoryview(cells)  # type: ignore[arg-type]
     except (TypeError, ValueError, BufferError):
@@ -240,7 +240,7 @@ def _kind_of(cell: object) -> Optional[str]:
 
 
 def written(column: Union[Named, Column], write: Callable[[Any], Any], cell: object) -> Any:
-    """What a cell is written as; a fault names the column."""
+    """The written form of a cell; a fault names the column."""
     try:
         return write(cell)
     except TypeMismatch as fault:

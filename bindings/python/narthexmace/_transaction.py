@@ -21,7 +21,7 @@ _INSERT, _UPSERT, _DELETE = 1, 2, 3
 
 
 def check_commit(code: int, number: int) -> None:
-    """As ``check``, of a commit, which tells the number of the newest table where it ends a transaction."""
+    """Like ``check``, for a commit. If it has ended its transaction, ``number`` is that of the newest table."""
     if not code:
         return
     error = error_of(code)
@@ -100,7 +100,7 @@ class Transaction(Snapshot):
     def _decide(self) -> None:
         """Decides as ``commit`` would, and raises what that would raise. Nothing is committed: it stays open as it was.
 
-        Conflict, TooOld and Full end it. What it says holds until the table's next commit. Made where no interrupt
+        Conflict, TooOld and Full end it. The decision holds until the table's next commit. Made where no interrupt
         comes, as in a thread that isn't the main one: the table's lock is held from one call of C to the next.
         """
         with self._handle:

@@ -139,9 +139,9 @@ impl ArrowArray {
 /// Why a stream didn't hand out what it was asked for.
 #[derive(Clone, Debug, PartialEq, Eq)]
 pub struct ArrowError {
-    /// What the system calls it: `ENOMEM` is out of memory, and the stream may be asked again.
+    /// The system's error number: `ENOMEM` is out of memory, and the stream may be asked again.
     pub errno: i32,
-    /// What the stream says.
+    /// The stream's own message.
     pub said: String,
 }
 
@@ -174,7 +174,7 @@ impl ArrowArrayStream {
     ///
     /// # Safety
     /// At this address is a stream that follows the rules of Arrow's C stream interface, or one that is released, and
-    /// nobody else uses it meanwhile.
+    /// no other code uses it meanwhile.
     pub unsafe fn take(at: *mut ArrowArrayStream) -> ArrowArrayStream {
         // SAFETY: the caller promises it; the one that is left behind is released, so that none is dropped twice.
         unsafe { ptr::replace(at, ArrowArrayStream::empty()) }
@@ -222,7 +222,7 @@ impl ArrowArrayStream {
     }
 }
 
-/// What the system calls an argument that can't be: a stream that is released.
+/// The system's error number for an invalid argument (`EINVAL`): a stream that is released.
 const RELEASED: c_int = 22;
 
 /// A column that goes out, and the format in which it does.
@@ -312,13 +312,13 @@ impl<E: Ending> Transaction<'_, E> {
     /// - [`Error::Misuse`]: the stream is released already.
     pub fn apply_arrow(&mut self, mut stream: ArrowArrayStream, what: Apply) -> Result<u64, ArrowRefusal> {
         let (mut fault, mut rows) = (ffi::ArrowFault::default(), 0);
-        // SAFETY: the transaction is open, and nobody reads it meanwhile; the call releases the stream.
+        // SAFETY: the transaction is open, and nothing reads it meanwhile; the call releases the stream.
         let code = unsafe { ffi::pdt_apply_arrow(self.raw(), &mut stream, what as c_int, &mut fault, &mut rows) };
         answer(code, &fault).map(|()| rows)
     }
 }
 
-/// What is done with each row of a stream.
+/// The operation applied to each row of a stream.
 #[derive(Clone, Copy, Debug, PartialEq, Eq)]
 pub enum Apply {
     /// It is inserted: [`Error::Duplicate`] where there is a row of its key.
@@ -407,7 +407,7 @@ impl Table {
             // SAFETY: there are as many names as is said, and all is there during the call, which releases the stream.
             unsafe { ffi::pdt_open_arrow(&mut stream, names.as_ptr(), names.len(), &options, fault, raw) }
         })?;
-        // SAFETY: the table has just been opened, and nobody else has it.
+        // SAFETY: the table has just been opened, and nothing else owns it.
         Ok(unsafe { Table::adopt(raw) }?)
     }
 
@@ -427,8 +427,8 @@ impl Table {
         done(unsafe { ffi::pdt_declare(self.as_raw(), column, format.map_or(ptr::null(), CStr::as_ptr)) })
     }
 
-    /// The declared format of a column, or `None`. What came in by Arrow as doubles, dates, times or decimals is
-    /// declared.
+    /// The declared format of a column, or `None`. A column that came in by Arrow as doubles, dates, times or decimals
+    /// is declared.
     ///
     /// # Errors
     ///

@@ -35,11 +35,11 @@ pub struct Batch<'t> {
 #[derive(Clone, Debug)]
 #[non_exhaustive]
 pub enum Values<'t> {
-    /// Of a column of numbers.
+    /// The numbers of an int column.
     Ints(Ints<'t>),
-    /// Of a column of texts.
+    /// The texts of a text column.
     Texts(Texts),
-    /// Of a column of booleans.
+    /// The booleans of a bool column.
     Bools(Vec<bool>),
 }
 
@@ -165,7 +165,7 @@ impl<'t> IntSpan<'t> {
         if span.at.is_null() {
             return IntSpan::Changed(span.number);
         }
-        // SAFETY: so many numbers lie there, which nobody writes, and they stay as long as the caller promises.
+        // SAFETY: as many numbers are there, nothing writes them, and they stay as long as the caller promises.
         IntSpan::Stable(unsafe { slice::from_raw_parts(span.at, span.count as usize) })
     }
 }
@@ -199,7 +199,7 @@ impl Texts {
         self.offsets.windows(2).map(|ends| &self.bytes[ends[0]..ends[1]])
     }
 
-    /// The texts of a text column, so many rows from a position on.
+    /// The texts of a text column, of `rows` rows from a position on.
     fn read(txn: &Open<'_>, column: usize, from: u64, rows: usize) -> Result<Texts, Error> {
         let mut lengths = filled(rows, 0i64)?;
         let mut bytes = filled(rows.saturating_mul(16).max(ffi::MAX_TEXT), 0u8)?;
@@ -249,7 +249,7 @@ pub(crate) fn booleans(txn: &Open<'_>, column: usize, from: u64, room: &mut [u8]
     Ok(count)
 }
 
-/// The booleans of a bool column, so many rows from a position on.
+/// The booleans of a bool column, of `rows` rows from a position on.
 fn read_truths(txn: &Open<'_>, column: usize, from: u64, rows: usize) -> Result<Vec<bool>, Error> {
     let mut bytes = filled(rows, 0u8)?;
     let count = booleans(txn, column, from, &mut bytes)?;
@@ -288,7 +288,7 @@ pub struct Batches<'t> {
 }
 
 impl<'t> Batches<'t> {
-    /// The batches of so many rows from one position of the table up to another.
+    /// The batches of `rows` rows from one position of the table up to another.
     pub(crate) fn over(
         txn: &'t Open<'_>,
         chosen: &[usize],

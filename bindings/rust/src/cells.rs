@@ -194,7 +194,7 @@ impl<'c> IntoIterator for &'c Row {
     }
 }
 
-/// So many elements, all alike, or `NoMemory`.
+/// `count` clones of an element, or `NoMemory`.
 pub(crate) fn filled<T: Clone>(count: usize, element: T) -> Result<Vec<T>, Error> {
     let mut elements = Vec::new();
     elements.try_reserve_exact(count)?;

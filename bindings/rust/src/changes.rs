@@ -9,7 +9,7 @@ use std::iter::FusedIterator;
 use std::ptr::{self, NonNull};
 use std::time::Duration;
 
-/// What an entry does to the rows below its layer.
+/// The change that an entry makes to the rows below its layer.
 #[derive(Clone, Debug, PartialEq, Eq, Hash)]
 #[non_exhaustive]
 pub enum Change {
@@ -78,7 +78,7 @@ impl Layer {
     /// A layer of a table.
     ///
     /// # Safety
-    /// `raw` has been made of this table, and nobody else has it.
+    /// `raw` has been made of this table, and nothing else owns it.
     unsafe fn adopt(raw: NonNull<ffi::Layer>, table: &Table) -> Layer {
         let mut types = [ColumnType::Int; ffi::MAX_COLUMNS];
         types.iter_mut().zip(table.columns()).for_each(|(to, column)| *to = column.column_type);
@@ -184,7 +184,7 @@ impl Iterator for Entries<'_> {
 
 impl FusedIterator for Entries<'_> {}
 
-/// What each commit after a number changed: see [`Table::changes_after`].
+/// The changes of each commit after a number: see [`Table::changes_after`].
 #[derive(Debug)]
 pub struct Changes<'s> {
     table: &'s Table,
@@ -209,7 +209,7 @@ impl Iterator for Changes<'_> {
 impl FusedIterator for Changes<'_> {}
 
 impl Table {
-    /// What a commit changed: its entries over the version before it. `None` if it isn't one of the last
+    /// The changes of a commit: its entries over the version before it. `None` if it isn't one of the last
     /// [`Options::recent`](crate::Options::recent) commits, came before the last [`trim`](Table::trim), or hasn't taken
     /// place. Takes memory for each entry and copies no row. Commits wait for the time of the copy.
     ///
@@ -225,14 +225,14 @@ impl Table {
             code => {
                 done(code)?;
                 let raw = NonNull::new(raw).expect("changes that are there are handed out");
-                // SAFETY: the layer has just been made of this table, and nobody else has it.
+                // SAFETY: the layer has just been made of this table, and nothing else owns it.
                 Ok(Some(unsafe { Layer::adopt(raw, self) }))
             }
         }
     }
 
-    /// What each commit after a number changed, with its number, up to the newest commit of this call (change data
-    /// capture).
+    /// The changes of each commit after a number, with the commit's own number, up to the newest commit of this call
+    /// (change data capture).
     ///
     /// There is never a gap: if the next commit isn't retained any more, [`Error::Missing`] comes in its place, and
     /// nothing after it. A follower then reads the rows of a [`pin`](Table::pin), and goes on from its number. Nothing

@@ -33,7 +33,7 @@ impl<'s> Checkpoint<'s> {
     /// A checkpoint that has just begun.
     ///
     /// # Safety
-    /// `raw` has begun over this table, at the commit of this number, and nobody else has it.
+    /// `raw` has begun over this table, at the commit of this number, and nothing else owns it.
     pub(crate) unsafe fn adopt(raw: NonNull<ffi::OpenCheckpoint>, number: u64, table: Keeper<'s>) -> Checkpoint<'s> {
         Checkpoint { raw, number, table }
     }
@@ -78,7 +78,7 @@ impl<'s> Checkpoint<'s> {
         // SAFETY: the checkpoint has not ended, and its table is kept, and so is open.
         done(unsafe { ffi::pdt_checkpoint_read(self.raw.as_ptr(), &mut raw) })?;
         let raw = NonNull::new(raw).expect("a begin that is done hands out a transaction");
-        // SAFETY: the transaction is open, over this table, and nobody else has it.
+        // SAFETY: the transaction is open, over this table, and nothing else owns it.
         Ok(unsafe { Transaction::adopt(raw, self.table.clone()) })
     }
 

@@ -79,7 +79,7 @@ pub(crate) fn passed_name(name: &str) -> Result<CString, Error> {
     CString::new(bytes).map_err(|_| Error::BadTable)
 }
 
-/// Columns as the library takes them: where their values lie, and their names, each with a zero.
+/// Columns as the library takes them: their values, borrowed, and their names, each with a zero at its end.
 pub(crate) struct Passed<'a> {
     columns: &'a [(&'a str, ColumnValues<'a>)],
     names: Vec<CString>,
@@ -203,7 +203,7 @@ impl<E: fmt::Display> fmt::Display for CheckpointError<E> {
 
 impl<E: std::error::Error> std::error::Error for CheckpointError<E> {}
 
-/// What takes the bytes of a part of an image.
+/// A function that takes the bytes of a part of an image.
 type TakeBytes<'w, E> = dyn FnMut(CheckpointPart, &[u8]) -> Result<(), E> + 'w;
 
 /// A writer that is called from C, how it failed, and a panic that is not to pass through C.
@@ -228,7 +228,7 @@ unsafe extern "C" fn take_bytes<E>(context: *mut c_void, column: usize, bytes: *
 }
 
 impl Table {
-    /// Opens a table over columns, the first `key` of which are the key, with their rows in ascending key. The values
+    /// Opens a table over columns, with their rows in ascending key. The first `key` columns are the key. The values
     /// are copied and checked column by column, the keys last.
     ///
     /// # Errors

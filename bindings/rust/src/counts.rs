@@ -39,7 +39,7 @@ pub struct Counts {
 }
 
 impl Counts {
-    /// What the library tells.
+    /// The counts that the library has returned.
     pub(crate) fn told(counts: &ffi::Counts) -> Counts {
         Counts {
             begins: counts.begins,

@@ -58,7 +58,7 @@ pub struct Database {
 
 // SAFETY: a database is no thread's own, and closed by whichever drops it.
 unsafe impl Send for Database {}
-// SAFETY: each call on a `pdt_database` but its close takes its locks. The close comes when nobody has the database.
+// SAFETY: each call on a `pdt_database` but its close takes its locks. The close comes when nothing uses the database.
 unsafe impl Sync for Database {}
 
 /// The name of a table, as the library takes it.
@@ -100,7 +100,7 @@ impl Database {
         self.raw.as_ptr()
     }
 
-    /// Who has which tables.
+    /// The handles of its tables, which a lock guards.
     pub(crate) fn handles(&self) -> MutexGuard<'_, Handles> {
         self.handles.lock().unwrap_or_else(PoisonError::into_inner)
     }
@@ -299,8 +299,8 @@ impl Database {
             handles.begin_drop(table)?;
             table
         };
-        // SAFETY: the database is open while `self` is there, and the name ends with a zero; nobody has the table or
-        // takes it.
+        // SAFETY: the database is open while `self` is there, and the name ends with a zero; the table has no handle,
+        // and gets none.
         let dropped = done(unsafe { ffi::pdt_table_drop(self.as_raw(), passed.as_ptr()) });
         self.handles().end_drop(table);
         dropped
@@ -382,7 +382,7 @@ impl Database {
 
     fn end(&mut self) -> c_int {
         self.is_closed = true;
-        // SAFETY: nobody else uses the database, since each table and database transaction keeps it. Where a
+        // SAFETY: nothing else uses the database, since each table and database transaction keeps it. Where a
         // transaction of one was forgotten the library answers MISUSE, and the database stays.
         unsafe { ffi::pdt_database_close(self.as_raw()) }
     }

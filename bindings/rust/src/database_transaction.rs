@@ -46,7 +46,7 @@ pub struct DatabaseTransaction<'d> {
 /// A table's transaction that was asked for.
 struct Begun {
     txn: NonNull<ffi::Txn>,
-    /// The savepoints that stand in it, while nobody has it.
+    /// Its savepoints, while no part is handed out.
     savepoints: Option<Savepoints>,
 }
 
@@ -66,7 +66,7 @@ pub struct InDatabase<'w> {
 impl Ending for InDatabase<'_> {}
 
 impl sealed::Ends for InDatabase<'_> {
-    /// The savepoints stay in the database transaction, for who asks for the transaction again.
+    /// The savepoints stay in the database transaction, for a caller that asks for the transaction again.
     fn end(&mut self, _: *mut ffi::Txn, savepoints: Savepoints) {
         self.dbtxn.parts.borrow_mut()[self.at].savepoints = Some(savepoints);
     }
@@ -115,7 +115,7 @@ impl<'d> DatabaseTransaction<'d> {
         }
         let savepoints = parts[at].savepoints.take().ok_or(Error::Misuse)?;
         // SAFETY: the transaction is over this table, and open as long as the database transaction, which is borrowed;
-        // nobody has it, since its savepoints were there.
+        // nothing else has it, since its savepoints were there.
         Ok(unsafe { Transaction::lent(txn, Keeper::Lent(table), savepoints, InDatabase { dbtxn: self, at }) })
     }
 

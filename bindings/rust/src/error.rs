@@ -184,10 +184,10 @@ pub struct TableFault {
 }
 
 impl TableFault {
-    /// What the library tells of a text.
+    /// The fault that the library has found in a text.
     ///
     /// # Safety
-    /// `pdt_open_csv` has answered `BAD_TABLE`, and told the fault.
+    /// `pdt_open_csv` has returned `BAD_TABLE`, and written the fault.
     pub(crate) unsafe fn told(fault: &ffi::Fault) -> TableFault {
         // SAFETY: the cause is never null then, ends with a zero, and is there as long as the program.
         let cause = unsafe { CStr::from_ptr::<'static>(fault.cause) };
@@ -269,8 +269,8 @@ pub type CommitError<'s> = Refusal<Transaction<'s>>;
 pub type DatabaseCommitError<'d> = Refusal<DatabaseTransaction<'d>>;
 
 impl<T> Refusal<T> {
-    /// What the library has answered to a commit: `given_back` is open where the refusal has it, and is over where it
-    /// is handed out beside it.
+    /// The refusal of a commit, by the code that the library has returned. `given_back` is open where the refusal has
+    /// it, and is over where it is handed out beside it.
     pub(crate) fn of(code: c_int, number: u64, given_back: T) -> (Refusal<T>, Option<T>) {
         let ended = match code {
             ffi::NOMEM => return (Refusal::NoMemory(given_back), None),

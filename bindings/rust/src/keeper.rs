@@ -1,4 +1,4 @@
-//! What has begun keeps open what it has begun over.
+//! A transaction, a pin or a checkpoint keeps the table or the database open over which it has begun.
 use crate::Table;
 use std::ops::Deref;
 use std::sync::Arc;

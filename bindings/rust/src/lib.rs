@@ -2,9 +2,9 @@
 //! columns.
 //!
 //! A [`Table`] is an ordered table that threads share. A [`Transaction`] reads the version of its begin with its own
-//! writes, row by row or column by column ([`Batch`]), and is committed, or aborted when it is dropped. Of two
-//! transactions that change the same cells the first that commits wins, and the other one gets a conflict. A [`Pin`]
-//! keeps a version, so that several threads begin over it. [`Table::changes_after`] returns what each commit changed
+//! writes, row by row or column by column ([`Batch`]), and is committed, or aborted when it is dropped. If two
+//! transactions change the same cells, the first to commit wins, and the other one gets a conflict. A [`Pin`] keeps a
+//! version, so that several threads begin over it. [`Table::changes_after`] returns what each commit changed
 //! (change data capture), and [`Table::wait`] blocks until the next one.
 //!
 //! A [`Database`] is a folder of durable tables. Acknowledged commits over one of them ([`TableRef`]), or over several

@@ -1,9 +1,9 @@
-//! What a database is opened with, what an opening finds, and why there is none.
+//! The options of a database, the report of its opening, and why an opening is refused.
 use crate::cells::owned;
 use crate::{Error, ffi};
 use std::fmt;
 
-/// What an acknowledged commit of a database survives.
+/// The failures that an acknowledged commit of a database survives.
 #[derive(Clone, Copy, Debug, Default, PartialEq, Eq, Hash)]
 pub enum SyncMode {
     /// A crash of the machine: a commit is acknowledged once it is on the device. Commits that wait at the same time
@@ -20,7 +20,7 @@ pub enum SyncMode {
 /// How to open a database.
 #[derive(Clone, Copy, Debug, PartialEq, Eq)]
 pub struct DatabaseOptions {
-    /// What an acknowledged commit survives; a crash of the machine by default.
+    /// The failures that an acknowledged commit survives; by default also a crash of the machine.
     pub sync: SyncMode,
     /// Whether a begin takes the newest version, even if a crash could still lose it; false by default.
     pub early_reads: bool,
@@ -118,7 +118,7 @@ pub(crate) fn unfilled() -> ffi::Report {
 }
 
 impl Report {
-    /// What the library told, after `done` had looked at its answer.
+    /// The report that the library has written, after `done` has looked at the code that it returned.
     pub(crate) fn told(done: Result<(), Error>, report: &ffi::Report) -> Result<Report, DatabaseError> {
         let ffi::Report { commits, replayed, torn_bytes, .. } = *report;
         done.map_err(|error| DatabaseError::told(error, report))?;
@@ -192,7 +192,7 @@ pub struct DatabaseCounts {
 }
 
 impl DatabaseCounts {
-    /// What the library tells.
+    /// The counts that the library has returned.
     pub(crate) fn told(counts: &ffi::DatabaseCounts) -> DatabaseCounts {
         DatabaseCounts {
             commits: counts.commits,

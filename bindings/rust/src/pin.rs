@@ -40,7 +40,7 @@ impl<'s> Pin<'s> {
     /// A table that has just been kept.
     ///
     /// # Safety
-    /// `raw` is of this table at this number, and nobody else has it.
+    /// `raw` is of this table at this number, and nothing else owns it.
     pub(crate) unsafe fn adopt(raw: NonNull<ffi::Pinned>, number: u64, table: Keeper<'s>) -> Pin<'s> {
         Pin { raw, number, table }
     }
@@ -67,7 +67,7 @@ impl<'s> Pin<'s> {
         // SAFETY: the pin is not let go, and its table is kept, and so is open.
         done(unsafe { ffi::pdt_begin_at(self.raw.as_ptr(), &mut raw) })?;
         let raw = NonNull::new(raw).expect("a begin that is done hands out a transaction");
-        // SAFETY: the transaction is open, over this table, and nobody else has it.
+        // SAFETY: the transaction is open, over this table, and nothing else owns it.
         Ok(unsafe { Transaction::adopt(raw, self.table.clone()) })
     }
 }

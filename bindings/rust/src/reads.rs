@@ -168,8 +168,8 @@ impl<E: Ending> Transaction<'_, E> {
         batch::booleans(&self.open, column, from, booleans)
     }
 
-    /// What the rows between two positions, up to the end of the table, are made of, in order: stable rows without
-    /// changes, stable rows with changed columns, and inserted rows. No key is read.
+    /// The runs of rows between two positions, up to the end of the table, in order: stable rows without changes,
+    /// stable rows with changed columns, and inserted rows. No key is read.
     ///
     /// Read over the rows of the stable table, the runs are the rows of the transaction; read over any other rows of
     /// the same number, they are those rows with the same changes. A program that keeps a column in files of its own

@@ -1,4 +1,4 @@
-//! What the rows of a table are made of, for columns that stay with the caller and are merged by position.
+//! The row runs of a table, for columns that stay with the caller and are merged by position.
 use crate::ffi;
 use crate::transaction::Open;
 use std::iter::FusedIterator;
@@ -18,7 +18,7 @@ pub enum RowRun {
         /// Where the first one is in the transaction's table.
         position: u64,
     },
-    /// A stable row of which layers change columns: [`Transaction::changed`](crate::Transaction::changed) says which.
+    /// A stable row with columns that layers change: [`Transaction::changed`](crate::Transaction::changed) says which.
     Changed {
         /// Where it is in the stable table.
         sid: u64,
@@ -50,7 +50,7 @@ impl RowRun {
         }
     }
 
-    /// What the library hands out.
+    /// A row run that the library has handed out.
     fn of(row_run: &ffi::RowRun) -> RowRun {
         let ffi::RowRun { position, rows, sid, source } = *row_run;
         match source {
@@ -67,7 +67,7 @@ impl RowRun {
 #[derive(Debug)]
 pub struct RowRuns<'t> {
     txn: &'t Open<'t>,
-    /// The first position of which no row run has been handed out, and where the range ends.
+    /// The first position without a row run that has been handed out, and the end of the range.
     at: u64,
     to: u64,
     room: [ffi::RowRun; STRETCHES],

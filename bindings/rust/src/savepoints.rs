@@ -10,7 +10,7 @@ pub struct Savepoint {
     number: u64,
 }
 
-/// The savepoints that stand, by their levels: the number of each, which no other savepoint of the program has.
+/// The savepoints that are set, by their levels: the number of each, which no other savepoint of the program has.
 #[derive(Default)]
 pub struct Savepoints(Vec<u64>);
 
@@ -37,7 +37,7 @@ impl Savepoints {
         }
     }
 
-    /// Lets all but the first so many go.
+    /// Drops all savepoints but the first `count`.
     pub(crate) fn truncate(&mut self, count: usize) {
         self.0.truncate(count);
     }

@@ -42,8 +42,8 @@ pub struct Column {
     pub column_type: ColumnType,
 }
 
-/// What grows in a table between folds and checkpoints. [`Table::fold`], [`Table::trim`] and [`Table::checkpoint`] make
-/// it small again.
+/// The sizes of those parts of a table that grow between folds and checkpoints. [`Table::fold`], [`Table::trim`] and
+/// [`Table::checkpoint`] make them small again.
 #[derive(Clone, Copy, Debug, PartialEq, Eq)]
 pub struct Sizes {
     /// The number of the newest version: commits since the opening.
@@ -149,7 +149,7 @@ impl Table {
     /// A table that was just opened, with its columns.
     ///
     /// # Safety
-    /// `raw` is a table that is open, which nobody else has.
+    /// `raw` is an open table, and nothing else owns it.
     pub(crate) unsafe fn adopt(raw: *mut ffi::Table) -> Result<Table, Error> {
         // SAFETY: the caller promises it.
         unsafe { Table::with_columns(raw, true, None) }
@@ -165,7 +165,7 @@ impl Table {
     }
 
     /// # Safety
-    /// `raw` is a table that is open as long as this one is there. Nobody else has it, if it is its own.
+    /// `raw` is a table that is open as long as this one is there. If `is_own`, nothing else owns it.
     unsafe fn with_columns(
         raw: *mut ffi::Table,
         is_own: bool,
@@ -373,7 +373,7 @@ fn begin(table: Keeper<'_>) -> Result<Transaction<'_>, Error> {
     // SAFETY: the table is open while it is kept.
     done(unsafe { ffi::pdt_begin(table.as_raw(), &mut raw) })?;
     let raw = NonNull::new(raw).expect("a begin that is done hands out a transaction");
-    // SAFETY: the transaction is open, over this table, and nobody else has it.
+    // SAFETY: the transaction is open, over this table, and nothing else owns it.
     Ok(unsafe { Transaction::adopt(raw, table) })
 }
 
@@ -382,7 +382,7 @@ fn pin(table: Keeper<'_>) -> Result<Pin<'_>, Error> {
     // SAFETY: the table is open while it is kept.
     done(unsafe { ffi::pdt_pin(table.as_raw(), &mut number, &mut raw) })?;
     let raw = NonNull::new(raw).expect("a pin that is done hands out a pin");
-    // SAFETY: the pin is of this table at this number, and nobody else has it.
+    // SAFETY: the pin is of this table at this number, and nothing else owns it.
     Ok(unsafe { Pin::adopt(raw, number, table) })
 }
 
@@ -391,7 +391,7 @@ fn begin_checkpoint(table: Keeper<'_>) -> Result<Checkpoint<'_>, Error> {
     // SAFETY: the table is open while it is kept.
     done(unsafe { ffi::pdt_checkpoint_begin(table.as_raw(), &mut number, &mut raw) })?;
     let raw = NonNull::new(raw).expect("a begin that is done hands out a checkpoint");
-    // SAFETY: the checkpoint has begun over this table, and nobody else has it.
+    // SAFETY: the checkpoint has begun over this table, and nothing else owns it.
     Ok(unsafe { Checkpoint::adopt(raw, number, table) })
 }
 
@@ -400,7 +400,7 @@ impl Drop for Table {
         if !self.is_own {
             return;
         }
-        // SAFETY: nobody else uses the table, since each transaction, checkpoint and pin keeps it. One that was
+        // SAFETY: nothing else uses the table, since each transaction, checkpoint and pin keeps it. One that was
         // forgotten is still open: the library answers MISUSE then, and the table stays.
         unsafe { ffi::pdt_close(self.raw.as_ptr()) };
     }

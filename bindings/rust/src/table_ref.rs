@@ -1,4 +1,4 @@
-//! A table of a database, and who has it.
+//! A table of a database, and the handles of each.
 use crate::keeper::Keeper;
 use crate::{Database, Error, Table, ffi};
 use std::fmt;
@@ -71,11 +71,11 @@ impl Drop for Handle<'_> {
     }
 }
 
-/// Who has which tables of a database. Tables are known by their addresses.
+/// The handles of a database's tables, counted. Tables are known by their addresses.
 #[derive(Default)]
 pub(crate) struct Handles(Vec<Had>);
 
-/// A table that somebody has, or that is being dropped.
+/// A table that has handles, or that is being dropped.
 struct Had {
     table: usize,
     handles: usize,
@@ -87,7 +87,7 @@ impl Handles {
         self.0.iter().position(|had| had.table == table)
     }
 
-    /// Counts one who has a table. `Missing` where it is being dropped.
+    /// Counts one handle of a table more. `Missing` if it is being dropped.
     pub(crate) fn take(&mut self, table: usize) -> Result<(), Error> {
         match self.of(table) {
             Some(at) if self.0[at].leaves => return Err(Error::Missing),
@@ -100,7 +100,7 @@ impl Handles {
         Ok(())
     }
 
-    /// One has it no more.
+    /// Counts one handle of a table less.
     fn let_go(&mut self, table: usize) {
         let at = self.of(table).expect("whoever has a table was counted");
         self.0[at].handles -= 1;
@@ -109,7 +109,7 @@ impl Handles {
         }
     }
 
-    /// Lets nobody take a table any more. `Misuse` where somebody has it, or drops it already.
+    /// Refuses further handles of a table. `Misuse` if it has handles, or is being dropped already.
     pub(crate) fn begin_drop(&mut self, table: usize) -> Result<(), Error> {
         if self.of(table).is_some() {
             return Err(Error::Misuse);

@@ -1,4 +1,4 @@
-//! The texts of a column where they lie.
+//! The texts of a column, zero-copy.
 use crate::cells::filled;
 use crate::error::done;
 use crate::table::ColumnType;
@@ -33,7 +33,7 @@ pub(crate) fn lent<'t>(txn: &'t Open<'_>, column: usize, from: u64, to: u64) -> 
 /// `pdt_texts` has filled both, and until `'t` ends its transaction makes no write, rolls back to no savepoint and
 /// isn't over.
 unsafe fn text_at<'t>(at: *const c_char, len: i64) -> &'t str {
-    // SAFETY: so many bytes lie there, which nobody writes, and they stay as long as the caller promises; where there
+    // SAFETY: as many bytes are there, nothing writes them, and they stay as long as the caller promises; where there
     // are none the address isn't null.
     let bytes = unsafe { slice::from_raw_parts(at.cast(), len as usize) };
     debug_assert!(str::from_utf8(bytes).is_ok());

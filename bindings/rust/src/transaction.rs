@@ -67,7 +67,7 @@ pub(crate) mod sealed {
     use crate::ffi;
     use crate::savepoints::Savepoints;
 
-    /// What is done once nothing uses a transaction any more.
+    /// How a transaction ends, once nothing uses it any more.
     pub trait Ends {
         /// Called once, with its table still there.
         fn end(&mut self, txn: *mut ffi::Txn, savepoints: Savepoints);
@@ -96,7 +96,7 @@ impl<'s> Transaction<'s> {
     /// A transaction that has just begun.
     ///
     /// # Safety
-    /// `raw` is open, a transaction over this table, and nobody else has it.
+    /// `raw` is open, a transaction over this table, and nothing else owns it.
     pub(crate) unsafe fn adopt(raw: NonNull<ffi::Txn>, table: Keeper<'s>) -> Transaction<'s> {
         Transaction { open: Open { raw, table }, savepoints: Savepoints::default(), ending: Alone { is_over: false } }
     }
@@ -196,10 +196,10 @@ impl<'s> Transaction<'s> {
 }
 
 impl<'s, E: Ending> Transaction<'s, E> {
-    /// A database transaction's part, with the savepoints that stand in it.
+    /// A database transaction's part, with the savepoints that are set in it.
     ///
     /// # Safety
-    /// `raw` is open as long as `'s`, a transaction over this table, and nobody else uses it.
+    /// `raw` is open as long as `'s`, a transaction over this table, and nothing else uses it.
     pub(crate) unsafe fn lent(
         raw: NonNull<ffi::Txn>,
         table: Keeper<'s>,
