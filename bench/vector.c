@@ -109,9 +109,17 @@ static int x_rowid(sqlite3_vtab_cursor *base, sqlite3_int64 *out) {
 int sqlite3_vector_init(sqlite3 *db, char **fault, const sqlite3_api_routines *api) {
   (void)fault;
   SQLITE_EXTENSION_INIT2(api);
-  static const sqlite3_module module = {
-      .xCreate = x_connect, .xConnect = x_connect, .xBestIndex = x_best_index, .xDisconnect = x_disconnect,
-      .xDestroy = x_disconnect, .xOpen = x_open, .xClose = x_close, .xFilter = x_filter, .xNext = x_next,
-      .xEof = x_eof, .xColumn = x_column, .xRowid = x_rowid};
+  static const sqlite3_module module = {.xCreate = x_connect,
+                                        .xConnect = x_connect,
+                                        .xBestIndex = x_best_index,
+                                        .xDisconnect = x_disconnect,
+                                        .xDestroy = x_disconnect,
+                                        .xOpen = x_open,
+                                        .xClose = x_close,
+                                        .xFilter = x_filter,
+                                        .xNext = x_next,
+                                        .xEof = x_eof,
+                                        .xColumn = x_column,
+                                        .xRowid = x_rowid};
   return sqlite3_create_module(db, "vector", &module, NULL);
 }

@@ -13,18 +13,22 @@ import tempfile
 import source
 
 # the lines that a check prints, each from its first character on
-KNOWN = re.compile("|".join((
-    r"$|\s",
-    r"by-macro: |long terms are shown computed here",
-    r"so far: \d+ of \d+ functions checked",
-    r"(struct|enum|union|impl|trait|type|const|static|law) \S.*: (proved$|not proved)",
-    r"fn \S+: (proved$|proved, may wait$|proved where its callers give what it asks$|not proved|no proof: )",
-    r"(note|help|warning): ",
-    r"\./proofs/\S+\.antt:\d+:\d+: (error|note|warning): ",
-    r"(logic /|axioms )\S+: ",
-    r"(statements|library|crate) \w+: modules ",
-    r"logic=(not-)?proved\b",
-)))
+KNOWN = re.compile(
+    "|".join(
+        (
+            r"$|\s",
+            r"by-macro: |long terms are shown computed here",
+            r"so far: \d+ of \d+ functions checked",
+            r"(struct|enum|union|impl|trait|type|const|static|law) \S.*: (proved$|not proved)",
+            r"fn \S+: (proved$|proved, may wait$|proved where its callers give what it asks$|not proved|no proof: )",
+            r"(note|help|warning): ",
+            r"\./proofs/\S+\.antt:\d+:\d+: (error|note|warning): ",
+            r"(logic /|axioms )\S+: ",
+            r"(statements|library|crate) \w+: modules ",
+            r"logic=(not-)?proved\b",
+        )
+    )
+)
 LINE = re.compile(r"^fn (\S+): (proved|not proved|no proof)(.*)$")
 NOTE = re.compile(r"^note: (\S+?):(\d+):\d+: it is not proved that")
 ANSWER = re.compile(r"^\./proofs/(\S+)/\w+\.antt:\d+:\d+: error: (.*)$")

@@ -27,15 +27,15 @@ static database *all;
 /* SQLite's code for one of an opening. */
 static int opening_code(int code) {
   switch (code) {
-  case PDT_LOCKED: return SQLITE_BUSY;
-  case PDT_CORRUPT:
-  case PDT_INCOMPLETE:
-  case PDT_MISMATCH:
-  case PDT_BAD_CHECKPOINT:
-  case PDT_NO_CHECKPOINT: return SQLITE_CORRUPT_VTAB; /* at SQLITE_CORRUPT itself SQLite writes no table of its own any more */
-  case PDT_NEWER_FORMAT:
-  case PDT_IO: return SQLITE_CANTOPEN;
-  default: return SQLITE_ERROR;
+    case PDT_LOCKED: return SQLITE_BUSY;
+    case PDT_CORRUPT:
+    case PDT_INCOMPLETE:
+    case PDT_MISMATCH:
+    case PDT_BAD_CHECKPOINT:
+    case PDT_NO_CHECKPOINT: return SQLITE_CORRUPT_VTAB; /* at SQLITE_CORRUPT itself SQLite writes no table of its own any more */
+    case PDT_NEWER_FORMAT:
+    case PDT_IO: return SQLITE_CANTOPEN;
+    default: return SQLITE_ERROR;
   }
 }
 
@@ -45,8 +45,7 @@ static void *tell(failure *why, const char *folder, int code, const pdt_report *
   int cause = errno;
   const char *stroke = report->file[0] ? "/" : "";
   const char *of = strcmp(report->file, "images.pdt") ? "commit" : "mark"; /* of a folder that the program has made */
-  if (report->fault)
-    place = sqlite3_mprintf("%s%s%s, at %s %llu", folder, stroke, report->file, of, (unsigned long long)report->fault);
+  if (report->fault) place = sqlite3_mprintf("%s%s%s, at %s %llu", folder, stroke, report->file, of, (unsigned long long)report->fault);
   else place = sqlite3_mprintf("%s%s%s", folder, stroke, report->file);
   errno = cause;
   failure_of(why, opening_code(code), place ? place : folder, code);
@@ -113,7 +112,7 @@ void databases_leave(database *in) {
   if (--in->users) return;
   int code = pdt_database_close(in->raw);
   if (code) sqlite3_log(SQLITE_IOERR, "pdt: %s: %s", in->path, pdt_code_text(code)); /* nobody else is there to be told */
-  if (code == PDT_MISUSE) return; /* it stays open, for whoever comes next */
+  if (code == PDT_MISUSE) return;                                                    /* it stays open, for whoever comes next */
   database **at = &all;
   while (*at != in) at = &(*at)->next;
   *at = in->next;
@@ -140,8 +139,7 @@ static int read_content(const declaration *declared, char **bytes, size_t *len) 
 static const char *doubled_name(pdt_table *table) {
   for (size_t column = 0; column < pdt_columns(table); column++)
     for (size_t other = 0; other < column; other++)
-      if (!sqlite3_stricmp(pdt_column_name(table, column), pdt_column_name(table, other)))
-        return pdt_column_name(table, column);
+      if (!sqlite3_stricmp(pdt_column_name(table, column), pdt_column_name(table, other))) return pdt_column_name(table, column);
   return NULL;
 }
 
@@ -153,15 +151,14 @@ pdt_table *databases_make(database *in, const declaration *declared, failure *wh
   if (code) return failure_of(why, SQLITE_ERROR, from, code);
   pdt_fault fault = {{0, 0}, ""};
   pdt_table *table = NULL;
-  code = pdt_table_create_csv_declared(in->raw, declared->table, bytes, len, declared->formats, declared->width, &declared->options,
-                                       &fault, &table);
+  code = pdt_table_create_csv_declared(in->raw, declared->table, bytes, len, declared->formats, declared->width, &declared->options, &fault,
+                                       &table);
   free(bytes);
   if (code == PDT_BAD_TABLE)
     *why = (failure){SQLITE_ERROR, sqlite3_mprintf("%s: record %llu, column %llu: %s", from, (unsigned long long)fault.place.row,
                                                    (unsigned long long)fault.place.column, fault.cause)};
   else if (code == PDT_TYPE_MISMATCH)
-    *why = (failure){SQLITE_ERROR, sqlite3_mprintf("a table's name has 1 to %d bytes of UTF-8, and no control characters",
-                                                   PDT_MAX_NAME)};
+    *why = (failure){SQLITE_ERROR, sqlite3_mprintf("a table's name has 1 to %d bytes of UTF-8, and no control characters", PDT_MAX_NAME)};
   else if (code) failure_of(why, code == PDT_IO || code == PDT_WRITES_FAILED ? SQLITE_IOERR : SQLITE_ERROR, declared->place, code);
   if (code) return NULL;
   const char *doubled = doubled_name(table);

@@ -85,9 +85,7 @@ static void dbtxn_is_over(connection *c, dbtxn *w) {
 }
 
 /* Whether a commit has left its database transaction open, as it was. */
-static bool is_open_after(int code) {
-  return code == PDT_NOMEM || code == PDT_WRITES_FAILED || code == PDT_TOO_LONG || code == PDT_MISUSE;
-}
+static bool is_open_after(int code) { return code == PDT_NOMEM || code == PDT_WRITES_FAILED || code == PDT_TOO_LONG || code == PDT_MISUSE; }
 
 int dbtxn_commit(sqlite3_vtab *base, dbtxn *w) {
   connection *c = owner_of(base);

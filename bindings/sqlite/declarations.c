@@ -85,16 +85,14 @@ static bool read_option(const char *word, declaration *out, char **error) {
   else if ((value = value_of(word, "table"))) *error = read_name(value, &out->table);
   else if ((value = value_of(word, "sync"))) *error = read_sync(value, out);
   else if ((value = value_of(word, "recent"))) {
-    if (!number_of(value, &number) || number > SIZE_MAX)
-      *error = sqlite3_mprintf("recent is a number from 1 on, not %s", value);
+    if (!number_of(value, &number) || number > SIZE_MAX) *error = sqlite3_mprintf("recent is a number from 1 on, not %s", value);
     out->options.recent = (size_t)number;
   } else if ((value = value_of(word, "limit"))) {
     if (!number_of(value, &number)) *error = sqlite3_mprintf("limit is a number from 1 on, not %s", value);
     out->options.row_limit = number;
   } else if ((value = value_of(word, "conflicts"))) {
     out->options.by_row = !sqlite3_stricmp(value, "row");
-    if (!out->options.by_row && sqlite3_stricmp(value, "column"))
-      *error = sqlite3_mprintf("conflicts is row or column, not %s", value);
+    if (!out->options.by_row && sqlite3_stricmp(value, "column")) *error = sqlite3_mprintf("conflicts is row or column, not %s", value);
   }
   return value;
 }
@@ -153,8 +151,8 @@ typedef struct column_type {
 /* The type of a word; null where it is none. */
 static const column_type *type_named(const piece *p) {
   static const column_type types[] = {
-      {"INTEGER", PDT_INT, "?l", NULL}, {"INT", PDT_INT, "?l", NULL},    {"REAL", PDT_INT, "?g", "g"},
-      {"DATE", PDT_INT, "?tdD", "tdD"}, {"TEXT", PDT_TEXT, NULL, NULL},  {"TIMESTAMP", PDT_INT, "?tsu:", "tsu:"},
+      {"INTEGER", PDT_INT, "?l", NULL}, {"INT", PDT_INT, "?l", NULL},      {"REAL", PDT_INT, "?g", "g"},
+      {"DATE", PDT_INT, "?tdD", "tdD"}, {"TEXT", PDT_TEXT, NULL, NULL},    {"TIMESTAMP", PDT_INT, "?tsu:", "tsu:"},
       {"BOOL", PDT_BOOL, NULL, NULL},   {"BOOLEAN", PDT_BOOL, NULL, NULL},
   };
   for (size_t i = 0; i < sizeof types / sizeof *types; i++)
@@ -219,8 +217,7 @@ static char *read_column(const char *at, const piece *name, declaration *out) {
   if (!name->text[0] || name->is_long || strchr(name->text, ':'))
     return sqlite3_mprintf("a column's name has 1 to %d bytes and no colon", PDT_MAX_NAME);
   const column_type *found = type_named(&type);
-  if (!found)
-    return sqlite3_mprintf("column %s is INTEGER, REAL, DATE, TIMESTAMP, TEXT or BOOLEAN, not %s", name->text, type.text);
+  if (!found) return sqlite3_mprintf("column %s is INTEGER, REAL, DATE, TIMESTAMP, TEXT or BOOLEAN, not %s", name->text, type.text);
   out->types[out->width] = found->type;
   out->formats[out->width] = found->format;
   strcpy(out->names[out->width++], name->text);
@@ -243,14 +240,12 @@ static char *read_word(const char *word, declaration *out) {
 static char *check_columns(const declaration *out) {
   for (size_t i = 0; i < out->width; i++)
     for (size_t other = 0; other < i; other++)
-      if (!sqlite3_stricmp(out->names[i], out->names[other]))
-        return sqlite3_mprintf("duplicate column name: %s", out->names[i]);
+      if (!sqlite3_stricmp(out->names[i], out->names[other])) return sqlite3_mprintf("duplicate column name: %s", out->names[i]);
   for (size_t i = 0; i < out->keys; i++)
     if (i >= out->width || sqlite3_stricmp(out->names[i], out->key[i]))
       return sqlite3_mprintf("the columns of the key come first, in its order");
   for (size_t i = 0; i < out->keys; i++)
-    if (out->formats[i] && *out->formats[i] == '?')
-      return sqlite3_mprintf("column %s is of the key, and so NOT NULL", out->names[i]);
+    if (out->formats[i] && *out->formats[i] == '?') return sqlite3_mprintf("column %s is of the key, and so NOT NULL", out->names[i]);
   if (!out->width || out->keys) return NULL;
   return sqlite3_mprintf("declare the key, as id INTEGER PRIMARY KEY, or behind the columns as PRIMARY KEY (a, b)");
 }

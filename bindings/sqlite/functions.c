@@ -27,8 +27,7 @@ static session *find_known(connection *c, const char *schema, const char *name, 
   session *found = NULL;
   unsigned count = 0;
   for (session *s = c->sessions; s; s = s->next)
-    if (s->tables && !s->dropped && !sqlite3_stricmp(s->name, name) && (!schema || !sqlite3_stricmp(s->schema, schema)))
-      found = s, count++;
+    if (s->tables && !s->dropped && !sqlite3_stricmp(s->name, name) && (!schema || !sqlite3_stricmp(s->schema, schema))) found = s, count++;
   if (count == 1) return found;
   *why = sqlite3_mprintf(count ? "pdt: %s is a table of several schemas" : "pdt: %s is no table of pdt", name);
   return NULL;

@@ -30,8 +30,7 @@ typedef struct layers_cursor {
   char names[PDT_MAX_COLUMNS][PDT_MAX_NAME + 1];
 } layers_cursor;
 
-static int connect_layers(sqlite3 *db, void *context, int argc, const char *const *argv, sqlite3_vtab **out,
-                          char **error) {
+static int connect_layers(sqlite3 *db, void *context, int argc, const char *const *argv, sqlite3_vtab **out, char **error) {
   (void)argc, (void)argv, (void)error;
   int code = sqlite3_declare_vtab(db, "CREATE TABLE x(layer TEXT, sid INTEGER, rid INTEGER, kind TEXT, "
                                       "cells TEXT, name TEXT HIDDEN)");
@@ -216,12 +215,12 @@ static int column_layers(sqlite3_vtab_cursor *base, sqlite3_context *to, int col
   static const char *const kinds[] = {"", "insert", "delete", "modify"};
   const layers_cursor *c = (const layers_cursor *)base;
   switch (column) {
-  case LAYER: sqlite3_result_text(to, layers[c->layer], -1, SQLITE_STATIC); break;
-  case SID: sqlite3_result_int64(to, (sqlite3_int64)c->entry.sid); break;
-  case RID: sqlite3_result_int64(to, (sqlite3_int64)c->entry.rid); break;
-  case KIND: sqlite3_result_text(to, kinds[c->entry.kind], -1, SQLITE_STATIC); break;
-  case CELLS: put_cells(to, c); break;
-  default: sqlite3_result_text(to, c->name, -1, SQLITE_TRANSIENT);
+    case LAYER: sqlite3_result_text(to, layers[c->layer], -1, SQLITE_STATIC); break;
+    case SID: sqlite3_result_int64(to, (sqlite3_int64)c->entry.sid); break;
+    case RID: sqlite3_result_int64(to, (sqlite3_int64)c->entry.rid); break;
+    case KIND: sqlite3_result_text(to, kinds[c->entry.kind], -1, SQLITE_STATIC); break;
+    case CELLS: put_cells(to, c); break;
+    default: sqlite3_result_text(to, c->name, -1, SQLITE_TRANSIENT);
   }
   return SQLITE_OK;
 }

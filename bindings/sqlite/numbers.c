@@ -123,8 +123,7 @@ static bool take_digits(const char **at, const char *marks, int digits, int leas
 
 static bool take_date(const char **at, int64_t *number) {
   int year, month, of_month, back[3];
-  if (!take_digits(at, "", 4, 0, 9999, &year) || !take_digits(at, "-", 2, 1, 12, &month) ||
-      !take_digits(at, "-", 2, 1, 31, &of_month))
+  if (!take_digits(at, "", 4, 0, 9999, &year) || !take_digits(at, "-", 2, 1, 12, &month) || !take_digits(at, "-", 2, 1, 31, &of_month))
     return false;
   *number = day_of_date(year, month, of_month);
   date_of_day(*number, &back[0], &back[1], &back[2]);
@@ -212,8 +211,7 @@ bool result_number(sqlite3_context *to, const meaning *m, int64_t number) {
 static bool is_stamp(const meaning *m, const char *text, size_t len, int64_t *number) {
   char stamp[STAMP_ROOM];
   size_t bytes = 0;
-  return number_of_stamp(m, text, len, number) && stamp_of_number(m, *number, stamp, &bytes) && bytes == len &&
-         !memcmp(stamp, text, len);
+  return number_of_stamp(m, text, len, number) && stamp_of_number(m, *number, stamp, &bytes) && bytes == len && !memcmp(stamp, text, len);
 }
 
 /* The least number whose text isn't below another, or the one past the last. Both have one order. */
@@ -240,11 +238,11 @@ static int64_t first_stamp(const meaning *m, const char *text, size_t len, bool 
 static bool narrow_by(int op, int64_t first, int64_t last, int64_t *least, int64_t *most) {
   int64_t from = *least, to = *most;
   switch (op) {
-  case SQLITE_INDEX_CONSTRAINT_GE: from = first; break;
-  case SQLITE_INDEX_CONSTRAINT_GT: from = last + 1; break;
-  case SQLITE_INDEX_CONSTRAINT_LE: to = last; break;
-  case SQLITE_INDEX_CONSTRAINT_LT: to = first - 1; break;
-  default: from = first, to = last;
+    case SQLITE_INDEX_CONSTRAINT_GE: from = first; break;
+    case SQLITE_INDEX_CONSTRAINT_GT: from = last + 1; break;
+    case SQLITE_INDEX_CONSTRAINT_LE: to = last; break;
+    case SQLITE_INDEX_CONSTRAINT_LT: to = first - 1; break;
+    default: from = first, to = last;
   }
   if (from > *least) *least = from;
   if (to < *most) *most = to;
@@ -266,8 +264,7 @@ static int order_of(double real, int64_t whole) {
 
 bool narrow_by_number(int op, sqlite3_value *value, int64_t *least, int64_t *most) {
   int type = sqlite3_value_numeric_type(value);
-  if (type != SQLITE_INTEGER && type != SQLITE_FLOAT)
-    return op == SQLITE_INDEX_CONSTRAINT_LT || op == SQLITE_INDEX_CONSTRAINT_LE;
+  if (type != SQLITE_INTEGER && type != SQLITE_FLOAT) return op == SQLITE_INDEX_CONSTRAINT_LT || op == SQLITE_INDEX_CONSTRAINT_LE;
   double real = type == SQLITE_INTEGER ? (double)sqlite3_value_int64(value) : sqlite3_value_double(value);
   int order = type == SQLITE_INTEGER ? order_of(real, sqlite3_value_int64(value)) : 0;
   int64_t first = number_of_real(real == 0 ? -0.0 : real), last = number_of_real(real == 0 ? 0.0 : real);

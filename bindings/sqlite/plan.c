@@ -34,8 +34,7 @@ static int find_constraint(const planning *p, size_t column, int op, int other, 
 static void take_constraint(planning *p, int i, size_t column, const char *op) {
   p->info->aConstraintUsage[i].argvIndex = ++p->arguments;
   p->info->aConstraintUsage[i].omit = p->exact;
-  sqlite3_str_appendf(p->words, "%s%s%s?", p->arguments > 1 ? " AND " : "", pdt_column_name(p->session->table, column),
-                      op);
+  sqlite3_str_appendf(p->words, "%s%s%s?", p->arguments > 1 ? " AND " : "", pdt_column_name(p->session->table, column), op);
 }
 
 /* Takes what bounds a column, a list or at both sides; the bits for it. */
@@ -96,8 +95,7 @@ static int count_alike(session *s, pdt_txn *txn, uint64_t position, size_t colum
   key_of_row(s, s->old, s->old_texts, &low);
   low.columns = columns;
   low.bytes = 0;
-  for (size_t column = 0; column < columns; column++)
-    low.bytes += type_of(s, column) == PDT_TEXT ? (size_t)low.numbers[column] : 0;
+  for (size_t column = 0; column < columns; column++) low.bytes += type_of(s, column) == PDT_TEXT ? (size_t)low.numbers[column] : 0;
   key_copy(&high, &low);
   key_fill(s, &low, false);
   key_fill(s, &high, true);
@@ -247,9 +245,9 @@ static bool narrow_by_real(int op, double number, int64_t *least, int64_t *most)
    other text and a blob are above all numbers. It isn't NULL. False where no number is left. */
 static bool narrow(int op, sqlite3_value *value, int64_t *least, int64_t *most) {
   switch (sqlite3_value_numeric_type(value)) {
-  case SQLITE_INTEGER: return narrow_by_int(op, sqlite3_value_int64(value), least, most);
-  case SQLITE_FLOAT: return narrow_by_real(op, sqlite3_value_double(value), least, most);
-  default: return op == SQLITE_INDEX_CONSTRAINT_LT || op == SQLITE_INDEX_CONSTRAINT_LE;
+    case SQLITE_INTEGER: return narrow_by_int(op, sqlite3_value_int64(value), least, most);
+    case SQLITE_FLOAT: return narrow_by_real(op, sqlite3_value_double(value), least, most);
+    default: return op == SQLITE_INDEX_CONSTRAINT_LT || op == SQLITE_INDEX_CONSTRAINT_LE;
   }
 }
 

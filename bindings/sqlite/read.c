@@ -145,8 +145,7 @@ static int transaction_is_over(sqlite3_vtab *base) {
 /* Whether a range is that of one key. */
 static bool is_one_key(const session *s, const range *r) {
   return !r->past_low && r->past_high && r->low.bytes == r->high.bytes &&
-         !memcmp(r->low.numbers, r->high.numbers, s->keys * sizeof *r->low.numbers) &&
-         !memcmp(r->low.texts, r->high.texts, r->low.bytes);
+         !memcmp(r->low.numbers, r->high.numbers, s->keys * sizeof *r->low.numbers) && !memcmp(r->low.texts, r->high.texts, r->low.bytes);
 }
 
 /* The positions of a range's first row and of the one behind its last: by one search where it is that of one key.
@@ -332,9 +331,8 @@ static int put_number(cursor *c, sqlite3_context *to, size_t column, int64_t num
   }
   if (column < s->keys && m->kind == REALS) bounds_of(m, &least, &most);
   if (number >= least && number <= most && result_number(to, m, number)) return SQLITE_OK;
-  return say(c->base.pVtab, SQLITE_MISMATCH, "pdt: column %s has the number %lld, which is %s",
-             pdt_column_name(s->table, column), (long long)number,
-             m->kind == REALS ? "a NaN in the key" : "no date of the years 0000 to 9999");
+  return say(c->base.pVtab, SQLITE_MISMATCH, "pdt: column %s has the number %lld, which is %s", pdt_column_name(s->table, column),
+             (long long)number, m->kind == REALS ? "a NaN in the key" : "no date of the years 0000 to 9999");
 }
 
 /* A cell of the one row of a range. */

@@ -153,9 +153,7 @@ static pdt_table *find_table(database *in, const declaration *declared, bool cre
   why->code = SQLITE_ERROR;
   if (!code) why->text = sqlite3_mprintf("%s has other columns", declared->place);
   else if (!create) why->text = sqlite3_mprintf("%s has no table %s", declared->folder, declared->table);
-  else
-    why->text = sqlite3_mprintf("%s has no table %s, and no columns are declared to make it with", declared->folder,
-                                declared->table);
+  else why->text = sqlite3_mprintf("%s has no table %s, and no columns are declared to make it with", declared->folder, declared->table);
   return NULL;
 }
 
@@ -194,8 +192,7 @@ static shared *join_table(const declaration *declared, bool create, failure *why
 shared *tables_join(const declaration *declared, bool create, failure *why) {
   *why = (failure){SQLITE_OK, NULL};
   char *path = declared->folder ? NULL : realpath(declared->path, NULL);
-  if (!declared->folder && !path)
-    return failure_of(why, SQLITE_ERROR, declared->place, errno == ENOMEM ? PDT_NOMEM : PDT_IO);
+  if (!declared->folder && !path) return failure_of(why, SQLITE_ERROR, declared->place, errno == ENOMEM ? PDT_NOMEM : PDT_IO);
   pthread_mutex_lock(&lock);
   shared *entry = declared->folder ? join_table(declared, create, why) : join_alone(path, declared, why);
   if (entry) entry->users++;
@@ -243,8 +240,7 @@ bool tables_drop(const char *folder, const char *table, failure *why) {
   } else if (in) {
     int code = pdt_table_drop(databases_get(in), table);
     if (code == PDT_MISSING) *why = (failure){SQLITE_ERROR, sqlite3_mprintf("%s has no table %s", folder, table)};
-    else if (code == PDT_MISUSE)
-      *why = (failure){SQLITE_LOCKED, sqlite3_mprintf("%s: a transaction is open over its tables", folder)};
+    else if (code == PDT_MISUSE) *why = (failure){SQLITE_LOCKED, sqlite3_mprintf("%s: a transaction is open over its tables", folder)};
     else if (code) failure_of(why, code == PDT_IO || code == PDT_WRITES_FAILED ? SQLITE_IOERR : SQLITE_ERROR, folder, code);
   }
   if (in) databases_leave(in);

@@ -65,17 +65,17 @@ struct session {
      yet, since SQLite has reported no savepoint. */
   size_t created, dropped;
 
-  uint64_t rows, sampled;    /* how many there were when last asked, and when last sampled */
+  uint64_t rows, sampled;            /* how many there were when last asked, and when last sampled */
   double alike[PDT_MAX_KEY_COLUMNS]; /* how many rows have the same first columns, by the sample */
 
-  view *view;    /* of the open transaction; null before its first read or write */
-  uint64_t seen; /* the connection's statements when the view was last entered */
-  bool writing;  /* from xBegin, or the first write, to xCommit or xRollback */
-  bool wrote;    /* whether the view has writes */
-  bool doomed;   /* whether some of them had to be undone, and memory was refused for that */
+  view *view;        /* of the open transaction; null before its first read or write */
+  uint64_t seen;     /* the connection's statements when the view was last entered */
+  bool writing;      /* from xBegin, or the first write, to xCommit or xRollback */
+  bool wrote;        /* whether the view has writes */
+  bool doomed;       /* whether some of them had to be undone, and memory was refused for that */
   size_t savepoints; /* how many savepoints the view has: after a write has begun, one for each level */
-  size_t first;  /* how many of these are before the first write */
-  size_t last;   /* from this level on no savepoint has a write after it */
+  size_t first;      /* how many of these are before the first write */
+  size_t last;       /* from this level on no savepoint has a write after it */
 
   int64_t row[PDT_MAX_COLUMNS], old[PDT_MAX_COLUMNS]; /* the row that is written, and the one in its place */
   char *row_texts, *old_texts;
@@ -170,8 +170,7 @@ void transaction_end(session *s);
 /* The session of a table that is created, or that SQLite knows from its schema. Null, and a sentence, where there is
    none. A schema that was read anew has its table's session still, with its commits; so has one whose DROP was rolled
    back. */
-session *session_open(connection *c, const char *schema, const char *name, const declaration *declared, bool create,
-                      failure *why);
+session *session_open(connection *c, const char *schema, const char *name, const declaration *declared, bool create, failure *why);
 /* Takes a session from its connection. It lets its table go when no cursor reads in it, and goes itself when SQLite has
    no object for it. */
 void session_detach(session *s);
@@ -292,17 +291,17 @@ struct cursor {
   cursor *next; /* in its view */
   view *view;
   uint64_t low, high;
-  bool down;    /* whether the last position is the current one */
-  bool over;    /* whether it has passed the last row */
-  bool gone;    /* whether the current row was deleted: the next one is current without a step */
-  bool bounded; /* whether there is a bound; else it goes on to the end of the table */
-  bool past;    /* whether the bound's own row is in the range */
-  bool is_row;  /* whether the range is one row, which is read whole */
-  int64_t *row; /* that one, with its texts behind it; null before it was asked for */
+  bool down;          /* whether the last position is the current one */
+  bool over;          /* whether it has passed the last row */
+  bool gone;          /* whether the current row was deleted: the next one is current without a step */
+  bool bounded;       /* whether there is a bound; else it goes on to the end of the table */
+  bool past;          /* whether the bound's own row is in the range */
+  bool is_row;        /* whether the range is one row, which is read whole */
+  int64_t *row;       /* that one, with its texts behind it; null before it was asked for */
   uint64_t row_edits; /* one more than the view's when it was read, and 0 before that */
-  list *ranges; /* those that come behind this one; null where there is one alone */
-  key bound;    /* the key at which the range ends, in the cursor's direction */
-  key stand;    /* the key of the row that is gone */
+  list *ranges;       /* those that come behind this one; null where there is one alone */
+  key bound;          /* the key at which the range ends, in the cursor's direction */
+  key stand;          /* the key of the row that is gone */
   batch batches[];
 };
 

@@ -33,8 +33,7 @@ static int mismatch(sqlite3_vtab *base, size_t column, sqlite3_value *value) {
 
 /* Puts the cell of a value into a row, its text after the others. A number in a text column is its text, by its
    affinity. */
-static int put_cell(sqlite3_vtab *base, size_t column, sqlite3_value *value, int64_t *numbers, char *texts,
-                    size_t *bytes) {
+static int put_cell(sqlite3_vtab *base, size_t column, sqlite3_value *value, int64_t *numbers, char *texts, size_t *bytes) {
   int type = type_of(session_of(base), column), found = sqlite3_value_type(value);
   if (type != PDT_TEXT) {
     if (found == SQLITE_TEXT && !sqlite3_value_text(value)) return SQLITE_NOMEM;
@@ -104,9 +103,7 @@ static int replace_row(session *s, const key *const *olds, size_t count, size_t 
   return whole_ends(s, code);
 }
 
-static int hidden(sqlite3_vtab *base) {
-  return say(base, SQLITE_MISMATCH, "pdt: the hidden column of the key can't be written");
-}
+static int hidden(sqlite3_vtab *base) { return say(base, SQLITE_MISMATCH, "pdt: the hidden column of the key can't be written"); }
 
 static int insert(sqlite3_vtab *base, sqlite3_value **values) {
   session *s = session_of(base);
@@ -219,8 +216,7 @@ static int update(sqlite3_vtab *base, const key *from, sqlite3_value **values) {
   session *s = session_of(base);
   key to;
   size_t bytes = 0;
-  if (!sqlite3_value_nochange(values[s->width]) &&
-      (!key_of_value(s, values[s->width], &to) || key_compare(s, from, &to)))
+  if (!sqlite3_value_nochange(values[s->width]) && (!key_of_value(s, values[s->width], &to) || key_compare(s, from, &to)))
     return hidden(base);
   if (keyset_has(s->replaced, from))
     return say(base, SQLITE_ERROR, "pdt: UPDATE OR REPLACE came to a row that it has put in the place of another");
@@ -243,8 +239,7 @@ static int settle_zero(sqlite3_vtab *base, key *k) {
   int code = pdt_rank(s->view->txn, k->numbers, k->texts, k->bytes, &position, &there[0]);
   if (!code) code = pdt_rank(s->view->txn, &negative, k->texts, k->bytes, &position, &there[1]);
   if (code) return fail(base, code);
-  if (there[0] && there[1])
-    return say(base, SQLITE_ERROR, "pdt: %s has a row of -0.0 and one of 0.0, and SQLite has them equal", s->name);
+  if (there[0] && there[1]) return say(base, SQLITE_ERROR, "pdt: %s has a row of -0.0 and one of 0.0, and SQLite has them equal", s->name);
   if (there[1]) k->numbers[0] = negative;
   return SQLITE_OK;
 }

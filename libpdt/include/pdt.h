@@ -995,8 +995,7 @@ pdt_code pdt_delete(pdt_txn *txn, const int64_t *key, const void *texts, size_t 
  * @retval PDT_NOMEM          out of memory
  * @retval PDT_MISUSE         a pointer is null, or the transaction is prepared
  */
-pdt_code pdt_set(pdt_txn *txn, const int64_t *key, const void *texts, size_t bytes, size_t column, int64_t number,
-                 const void *text);
+pdt_code pdt_set(pdt_txn *txn, const int64_t *key, const void *texts, size_t bytes, size_t column, int64_t number, const void *text);
 
 /** @} */
 
@@ -1152,8 +1151,7 @@ pdt_code pdt_row_at(pdt_txn *txn, uint64_t position, int64_t *numbers, void *out
  * @retval PDT_OK      the cells are copied
  * @retval PDT_MISUSE  a pointer is null
  */
-pdt_code pdt_cells(pdt_txn *txn, size_t column, uint64_t from, int64_t *numbers, size_t *count, void *out, size_t room,
-                   size_t *bytes);
+pdt_code pdt_cells(pdt_txn *txn, size_t column, uint64_t from, int64_t *numbers, size_t *count, void *out, size_t room, size_t *bytes);
 
 /**
  * Copies the values of an int column from a position on.
@@ -1227,8 +1225,7 @@ typedef struct pdt_int_span {
  * @retval PDT_OK      the runs are written
  * @retval PDT_MISUSE  a pointer is null
  */
-pdt_code pdt_int_spans(pdt_txn *txn, size_t column, uint64_t from, uint64_t to, pdt_int_span *spans, size_t *count,
-                    uint64_t *rows);
+pdt_code pdt_int_spans(pdt_txn *txn, size_t column, uint64_t from, uint64_t to, pdt_int_span *spans, size_t *count, uint64_t *rows);
 
 /** @} */
 

@@ -51,7 +51,7 @@ typedef struct {
   int failed; /* what get_next answers once the batches that were read are handed out */
   struct ArrowArray *read;
   size_t first, many, room;
-  char error[256];       /* why a batch can't be read */
+  char error[256];        /* why a batch can't be read */
   const char *last_error; /* of the last call of the stream's, or null */
   pdti_shown columns[];
 } pdti_scan;
@@ -69,15 +69,15 @@ typedef struct {
   pdti_format as;
   pdti_format index; /* of a dictionary: how its indices lie */
   bool has_dictionary;
-  bool is_left_out;  /* its cells are passed over */
-  bool is_nullable;  /* its field says so */
-  bool takes_nulls;  /* as the least number, which no other cell is then */
-  bool may_have_least;     /* where it has no null, it may have that number */
+  bool is_left_out;         /* its cells are passed over */
+  bool is_nullable;         /* its field says so */
+  bool takes_nulls;         /* as the least number, which no other cell is then */
+  bool may_have_least;      /* where it has no null, it may have that number */
   bool has_null, has_least; /* of these columns, so far */
   int64_t *numbers;
   uint64_t *offsets;
   uint8_t *bytes;
-  size_t len;                        /* how many bytes the texts have */
+  size_t len; /* how many bytes the texts have */
   size_t number_room, offset_room, byte_room;
 } pdti_gathered;
 
@@ -90,8 +90,7 @@ typedef struct {
 } pdti_gathering;
 
 /* Fills a fault, which may be null, with a place and a sentence, and answers the code. */
-int pdti_tell(pdt_arrow_fault *fault, int code, uint64_t row, uint64_t column, const char *form, ...)
-    __attribute__((format(printf, 5, 6)));
+int pdti_tell(pdt_arrow_fault *fault, int code, uint64_t row, uint64_t column, const char *form, ...) __attribute__((format(printf, 5, 6)));
 
 /* Tells a cell of the batch that comes next, by its row there. */
 int pdti_tell_cell(const pdti_gathering *all, size_t at, uint64_t row, const char *what);

@@ -48,7 +48,7 @@ struct pdti_member {
   pdt_options options;
   size_t width;
   pdti_table_image image; /* that the manifest names; under files_lock */
-  bool is_imaged;    /* maintenance writes an image of it, without that lock: it isn't dropped meanwhile */
+  bool is_imaged;         /* maintenance writes an image of it, without that lock: it isn't dropped meanwhile */
 };
 
 struct pdt_database {
@@ -62,34 +62,34 @@ struct pdt_database {
 
   /* changed under files_lock and both of `locks` and with the turn, and read with any of the four */
   pdti_member **members;
-  pdt_table **batch;  /* the tables that the commits of a batch have changed, and what is replaced of each: of the thread that has */
+  pdt_table **batch;       /* the tables that the commits of a batch have changed, and what is replaced of each: of the thread that has */
   pdti_replaced *replaced; /* the turn, with room for all tables */
   size_t batch_count;
   size_t count, room;
   atomic_size_t dbtxns; /* how many are open */
 
   /* under the lock of the tables */
-  uint64_t newest;   /* the number of the newest commit */
+  uint64_t newest;     /* the number of the newest commit */
   pdti_buffer pending; /* the frames that nobody has written yet, each without its head: room for it, then its payload */
-  size_t staged;     /* how many bytes after those are a frame that isn't one yet */
-  bool takes_none;   /* the device has failed */
-  pdt_table *changed; /* the tables with commits that no batch has taken yet, where begins see them once they are durable */
+  size_t staged;       /* how many bytes after those are a frame that isn't one yet */
+  bool takes_none;     /* the device has failed */
+  pdt_table *changed;  /* the tables with commits that no batch has taken yet, where begins see them once they are durable */
 
   /* of the thread that has the turn */
   pdti_buffer writing;
-  int file;                          /* the last one of the journal: changed under turn_lock too, by the thread that syncs */
+  int file;                               /* the last one of the journal: changed under turn_lock too, by the thread that syncs */
   pdti_journal_file files[JOURNAL_FILES]; /* changed under turn_lock too */
   size_t file_count;
 
   /* under turn_lock */
   pthread_mutex_t turn_lock;
   pthread_cond_t turn_ends;
-  bool is_led;                    /* somebody has the turn */
-  bool is_syncing;                /* somebody syncs the file, or goes on in the next one */
-  bool has_failed;                /* the device has */
-  uint64_t written, durable;      /* the newest commit that the kernel has, and that the device has */
+  bool is_led;               /* somebody has the turn */
+  bool is_syncing;           /* somebody syncs the file, or goes on in the next one */
+  bool has_failed;           /* the device has */
+  uint64_t written, durable; /* the newest commit that the kernel has, and that the device has */
   uint64_t batches, syncs;
-  int next_file;                  /* the next one of the journal, whose name is durable: whoever has the turn goes on in it */
+  int next_file; /* the next one of the journal, whose name is durable: whoever has the turn goes on in it */
   uint64_t next_seq;
 
   atomic_uint_fast64_t published; /* the newest commit that begins may see; changed under fresh_lock */
@@ -99,7 +99,7 @@ struct pdt_database {
   pthread_cond_t image_ends; /* that was written without it */
   uint32_t next_table;
   uint64_t next_folder;
-  uint64_t noted;       /* the number that the manifest has: a commit that is durable */
+  uint64_t noted; /* the number that the manifest has: a commit that is durable */
 
   /* maintenance */
   pthread_t thread, syncer; /* the second where a commit is answered before the device has it */
@@ -108,9 +108,9 @@ struct pdt_database {
   pthread_cond_t maintenance_wakes;
   bool stops;
   pthread_mutex_t round_lock; /* one round at a time */
-  uint64_t quiet_at;            /* the newest durable commit of the last round, and since when it is that; under files_lock, as the rest */
+  uint64_t quiet_at;          /* the newest durable commit of the last round, and since when it is that; under files_lock, as the rest */
   struct timespec quiet_since;
-  bool is_rested;               /* the last round found nothing to do, at these numbers */
+  bool is_rested; /* the last round found nothing to do, at these numbers */
   uint64_t rested_newest, rested_durable;
   atomic_uint_fast64_t folds, checkpoints, faults;
 };
@@ -190,8 +190,8 @@ void pdti_remove_images(pdt_database *database);
 int pdti_open_in(int dir, const char *name, int how);
 int pdti_make_in(const pdt_database *database, int dir, const char *name, int how);
 mode_t pdti_folder_mode(mode_t mode); /* of a folder of files of a mode */
-int pdti_sync(int file);      /* the data, and how long it is */
-int pdti_sync_in(int dir);    /* the names */
+int pdti_sync(int file);              /* the data, and how long it is */
+int pdti_sync_in(int dir);            /* the names */
 int pdti_read_in(int dir, const char *name, pdti_buffer *into);
 int pdti_close_synced(int file, int code);
 void pdti_remove_in(int dir, const char *name); /* and leaves errno as it is */
@@ -258,8 +258,7 @@ int pdti_may_create(pdt_database *database, const char *name, pdt_table **table)
 
 /* Opens a table over columns for a database. None of them stays outside: a database makes images by itself, whose rows the caller's own
    values wouldn't follow. */
-int pdti_open_inside(const pdt_column *columns, size_t count, size_t key, const pdt_options *options, pdt_place *place,
-                     pdt_table **table);
+int pdti_open_inside(const pdt_column *columns, size_t count, size_t key, const pdt_options *options, pdt_place *place, pdt_table **table);
 
 /* Makes a table one of the database's, which was opened for that, and hands it out; else it is freed. */
 int pdti_create_table(pdt_database *database, const char *name, const pdt_options *options, pdt_table *table, pdt_table **out);

@@ -157,12 +157,12 @@ enum { PDTI_FORMAT_BYTES = 64 };
 
 /* The locks of a table, which all tables of a database share. */
 typedef struct {
-  pthread_mutex_t lock;        /* held in each call on a raw but the opening and the closing */
-  atomic_uintptr_t holder;     /* the thread that has it, or 0 */
-  struct timespec since;       /* when it was taken */
-  uint64_t longest;            /* the longest time that it was held, in nanoseconds */
-  atomic_uint_fast64_t waits;  /* how often a thread found it taken */
-  pthread_mutex_t fresh_lock;  /* which no call holds for longer than it takes to begin a transaction over each table */
+  pthread_mutex_t lock;       /* held in each call on a raw but the opening and the closing */
+  atomic_uintptr_t holder;    /* the thread that has it, or 0 */
+  struct timespec since;      /* when it was taken */
+  uint64_t longest;           /* the longest time that it was held, in nanoseconds */
+  atomic_uint_fast64_t waits; /* how often a thread found it taken */
+  pthread_mutex_t fresh_lock; /* which no call holds for longer than it takes to begin a transaction over each table */
 } pdti_locks;
 
 typedef struct pdti_member pdti_member;
@@ -170,7 +170,7 @@ typedef struct pdti_commit pdti_commit;
 
 struct pdt_table {
   pdti_handle raw;
-  pdti_locks *locks;      /* its own, or its database's */
+  pdti_locks *locks; /* its own, or its database's */
   pdti_locks own_locks;
   pdt_database *database; /* null where it is a table outside a database */
   pdti_member *member;    /* what it is there */
@@ -186,28 +186,28 @@ struct pdt_table {
 
   /* under the lock */
   size_t checkpoints_open; /* those that have begun and not ended */
-  uint64_t rebuilt;  /* how often what is below the Write-PDT was made anew */
-  uint64_t unpacked; /* how many entries were folded into the Read-PDT since it was packed */
-  uint64_t newest;  /* the number of the newest table: of a database's, the number that its last commit has there */
-  uint64_t *made_by; /* of a database's: the numbers there of its last commits and of the table before them, each at its own number
+  uint64_t rebuilt;        /* how often what is below the Write-PDT was made anew */
+  uint64_t unpacked;       /* how many entries were folded into the Read-PDT since it was packed */
+  uint64_t newest;         /* the number of the newest table: of a database's, the number that its last commit has there */
+  uint64_t *made_by;       /* of a database's: the numbers there of its last commits and of the table before them, each at its own number
                         modulo recent + 1 */
-  uint64_t *kept_upto; /* and how many bytes their changes take in memory, with those of all before them since the opening */
+  uint64_t *kept_upto;     /* and how many bytes their changes take in memory, with those of all before them since the opening */
   struct {
     uint64_t commits, conflicts, too_old, full, folds, checkpoints, superseded, packs;
   } done;
 
   /* under fresh_lock */
-  pdti_handle fresh;    /* the version that begins take: nothing where malloc refused it, and then a begin takes the other lock */
-  uint64_t commits;     /* its number */
-  pdti_handle coming;   /* a newer one, which begins take once its commits are durable */
+  pdti_handle fresh;  /* the version that begins take: nothing where malloc refused it, and then a begin takes the other lock */
+  uint64_t commits;   /* its number */
+  pdti_handle coming; /* a newer one, which begins take once its commits are durable */
   uint64_t coming_commits;
-  pdti_handle leaving;     /* one between the two, whose commits are being written */
+  pdti_handle leaving; /* one between the two, whose commits are being written */
   uint64_t leaving_commits;
   uint64_t leaving_newest; /* the number of the newest one among those: malloc may have refused to share that */
   pdt_table *next_changed; /* of a database's, under the lock: in the list of those with commits that no batch has taken yet */
   bool is_changed;
-  pthread_cond_t moved; /* the number has grown */
-  size_t waiting;       /* how many threads wait for that */
+  pthread_cond_t moved;          /* the number has grown */
+  size_t waiting;                /* how many threads wait for that */
   pdt_pinned *oldest, *youngest; /* the pins, in the order of their numbers */
   size_t pins;
 
@@ -217,15 +217,15 @@ struct pdt_table {
 struct pdt_txn {
   pdti_handle raw;
   pdt_table *table;
-  pdt_dbtxn *dbtxn; /* that it is a part of, if it is */
+  pdt_dbtxn *dbtxn;      /* that it is a part of, if it is */
   uint64_t version_seen; /* the number of the table that it sees */
-  bool is_prepared; /* its commit is */
-  pdti_handle decision; /* of a prepared commit: the table's lock is held then. Nothing where it changes nothing */
-  pdti_handle part; /* what a frame of its database's journal says of it */
+  bool is_prepared;      /* its commit is */
+  pdti_handle decision;  /* of a prepared commit: the table's lock is held then. Nothing where it changes nothing */
+  pdti_handle part;      /* what a frame of its database's journal says of it */
   size_t part_bytes;
   pdti_handle ended; /* once it is over: all that it had, and what its commit has replaced */
-  pthread_t by;     /* the thread that prepared it, and holds the lock */
-  pid_t process;    /* of that thread: a child of fork has a thread of the same name, and no lock */
+  pthread_t by;      /* the thread that prepared it, and holds the lock */
+  pid_t process;     /* of that thread: a child of fork has a thread of the same name, and no lock */
 };
 
 struct pdt_pinned {
@@ -361,7 +361,6 @@ extern int64_t pdti_no_numbers[1];
 
 static inline const uint8_t *bytes_at(const void *bytes, size_t len) { return len ? bytes : pdti_no_bytes; }
 static inline uint8_t *room_at(void *room, size_t len) { return len ? room : pdti_no_room; }
-
 
 /* ---- structs.c: those that begin with their size */
 

@@ -266,8 +266,8 @@ static void formats_go_out(void) {
 }
 
 static void formats_are_refused(void) {
-  static const char *const none[] = {"", "?", "tdX", "d:39,2", "d:0,0", "d:19", "d:19,2,64", "d:19,2x", "f", "u", "b", "ts:", "tsx:", "tss",
-                                     "c", "L", "+s", "n", "tiM", "??l"};
+  static const char *const none[] = {"",  "?",   "tdX",  "d:39,2", "d:0,0", "d:19", "d:19,2,64", "d:19,2x", "f",   "u",
+                                     "b", "ts:", "tsx:", "tss",    "c",     "L",    "+s",        "n",       "tiM", "??l"};
   pdt_table *table = opened();
   pdt_pinned *pin = NULL;
   struct ArrowArrayStream stream;
@@ -574,8 +574,8 @@ static void schemas_lie(void) {
   in.fields[1].release = NULL;
   refused("a released column", &in, PDT_TYPE_MISMATCH, 0, 1, "the schema has no column 1");
   in.fields[1].release = release_part_of_schema;
-  static const char *const none[] = {NULL, "", "n", "e", "z", "Z", "vz", "w:16", "+l", "+r",
-                                     "tdX", "tiM", "d:19,2,256", "d:,", "tss", "ll", "?l"};
+  static const char *const none[] = {NULL, "",    "n",   "e",          "z",   "Z",   "vz", "w:16", "+l",
+                                     "+r", "tdX", "tiM", "d:19,2,256", "d:,", "tss", "ll", "?l"};
   for (size_t i = 0; i < sizeof none / sizeof *none; i++) {
     in.fields[1].format = none[i];
     refused("a format", &in, PDT_TYPE_MISMATCH, 0, 1, "which no column takes");
@@ -671,7 +671,7 @@ static void cells_lie(void) {
   refused("a large number", &in, PDT_TYPE_MISMATCH, 4, 1, "a number above 9,223,372,036,854,775,807");
   of_format(&in, "d:38,0", 2, (int64_t[]){0, 0, 1, 0, 2, 1, 3, 0, 4, 0, 5, 0}, NULL);
   refused("a large decimal", &in, PDT_TYPE_MISMATCH, 2, 1, "a decimal that 64 bits don't hold");
-  static const int32_t bad[][4] = {{-1, 0, 0, 0}, {13, 0, 2, 0},  {13, 0, -1, 0},  {13, 0, 0, 1},
+  static const int32_t bad[][4] = {{-1, 0, 0, 0},  {13, 0, 2, 0}, {13, 0, -1, 0}, {13, 0, 0, 1},
                                    {13, 0, 0, -1}, {17, 0, 1, 0}, {4097, 0, 0, 0}};
   for (size_t i = 0; i < sizeof bad / sizeof *bad; i++) {
     fill_views(views);

@@ -42,9 +42,15 @@ static void decimals_in(void) {
     uint64_t low, high;
     bool is_taken;
   } cases[] = {
-      {INT64_MAX, 0, true},           {(uint64_t)INT64_MAX + 1, 0, false}, {UINT64_MAX, 0, false},
-      {(uint64_t)INT64_MIN, UINT64_MAX, true}, {INT64_MAX, UINT64_MAX, false}, {UINT64_MAX, UINT64_MAX, true},
-      {5, 1, false},                  {5, UINT64_MAX - 1, false},          {0, 0, true},
+      {INT64_MAX, 0, true},
+      {(uint64_t)INT64_MAX + 1, 0, false},
+      {UINT64_MAX, 0, false},
+      {(uint64_t)INT64_MIN, UINT64_MAX, true},
+      {INT64_MAX, UINT64_MAX, false},
+      {UINT64_MAX, UINT64_MAX, true},
+      {5, 1, false},
+      {5, UINT64_MAX - 1, false},
+      {0, 0, true},
   };
   for (size_t i = 0; i < sizeof cases / sizeof *cases; i++) {
     static source in;
@@ -65,9 +71,17 @@ static void other_meanings(void) {
     const char *declared, *comes;
     int code;
   } cases[] = {
-      {"d:15,2", "d:15,2", PDT_OK},     {"d:15,2", "d:10,2", PDT_OK},     {"d:15,2", "d:15,3", PDT_TYPE_MISMATCH}, {"d:15,3", "d:15,2", PDT_TYPE_MISMATCH},
-      {"tsu:", "tsu:", PDT_OK},         {"tsu:UTC", "tsu:UTC", PDT_OK},   {"tsu:UTC", "tsu:Europe/Berlin", PDT_OK},
-      {"tsu:UTC", "tsu:", PDT_TYPE_MISMATCH},   {"tsu:", "tsu:UTC", PDT_TYPE_MISMATCH},   {"tsu:UTC", "tsm:UTC", PDT_TYPE_MISMATCH}, {"tDu", "tDm", PDT_TYPE_MISMATCH},
+      {"d:15,2", "d:15,2", PDT_OK},
+      {"d:15,2", "d:10,2", PDT_OK},
+      {"d:15,2", "d:15,3", PDT_TYPE_MISMATCH},
+      {"d:15,3", "d:15,2", PDT_TYPE_MISMATCH},
+      {"tsu:", "tsu:", PDT_OK},
+      {"tsu:UTC", "tsu:UTC", PDT_OK},
+      {"tsu:UTC", "tsu:Europe/Berlin", PDT_OK},
+      {"tsu:UTC", "tsu:", PDT_TYPE_MISMATCH},
+      {"tsu:", "tsu:UTC", PDT_TYPE_MISMATCH},
+      {"tsu:UTC", "tsm:UTC", PDT_TYPE_MISMATCH},
+      {"tDu", "tDm", PDT_TYPE_MISMATCH},
   };
   for (size_t i = 0; i < sizeof cases / sizeof *cases; i++) {
     static const char csv[] = "id:int:key,at:int\n";
@@ -114,9 +128,14 @@ static void ends_out(void) {
     int64_t least, most;
     size_t bytes;
   } cases[] = {
-      {"i", INT32_MIN, INT32_MAX, 4}, {"tdD", INT32_MIN, INT32_MAX, 4},    {"d:1,0", -9, 9, 16},
-      {"d:3,2", -999, 999, 16},       {"d:18,0", -999999999999999999, 999999999999999999, 16}, {"l", INT64_MIN, INT64_MAX, 8},
-      {"d:19,0", INT64_MIN, INT64_MAX, 16}, {"d:38,10", INT64_MIN, INT64_MAX, 16},
+      {"i", INT32_MIN, INT32_MAX, 4},
+      {"tdD", INT32_MIN, INT32_MAX, 4},
+      {"d:1,0", -9, 9, 16},
+      {"d:3,2", -999, 999, 16},
+      {"d:18,0", -999999999999999999, 999999999999999999, 16},
+      {"l", INT64_MIN, INT64_MAX, 8},
+      {"d:19,0", INT64_MIN, INT64_MAX, 16},
+      {"d:38,10", INT64_MIN, INT64_MAX, 16},
   };
   for (size_t i = 0; i < sizeof cases / sizeof *cases; i++) {
     int64_t ends[] = {cases[i].least, cases[i].most};
@@ -166,13 +185,13 @@ static void nulls_in(void) {
   static const struct {
     const char *comes, *declared;
     bool is_key;
-  } cases[] = {{"l", "?l", false},     {"i", "?l", false},  {"g", "?g", false}, {"tsu:UTC", "?tsu:UTC", false},
+  } cases[] = {{"l", "?l", false},     {"i", "?l", false}, {"g", "?g", false}, {"tsu:UTC", "?tsu:UTC", false},
                {"tdD", "?tdD", false}, {"l", NULL, true}};
   for (size_t i = 0; i < sizeof cases / sizeof *cases; i++) {
     static source in;
     static const int64_t cells[] = {1, 0, 3};
     static const int32_t small[] = {1, 0, 3};
-    static const uint8_t bits[] = {5}; /* the second one isn't there */
+    static const uint8_t bits[] = {5};                                        /* the second one isn't there */
     bool is_small = *cases[i].comes == 'i' || !strcmp(cases[i].comes, "tdD"); /* of 32 bits */
     source_begin(&in);
     source_column(&in, "id", "l"), source_column(&in, "n", cases[i].comes)->flags = ARROW_FLAG_NULLABLE;

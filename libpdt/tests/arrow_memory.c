@@ -8,23 +8,23 @@
 #include <stdio.h>
 
 static long answered;
-#define CALL(call)                                                                    \
-  do {                                                                                \
-    int code_ = (call);                                                               \
-    if (code_ == PDT_NOMEM) answered++, code_ = (call);                               \
+#define CALL(call)                                                                           \
+  do {                                                                                       \
+    int code_ = (call);                                                                      \
+    if (code_ == PDT_NOMEM) answered++, code_ = (call);                                      \
     if (code_ != PDT_OK) return fprintf(stderr, "%s: %s\n", #call, pdt_code_text(code_)), 1; \
   } while (0)
 
 /* A callback of a stream, which says that memory was refused in its last error too. */
-#define ASK(stream, call)                                                        \
-  do {                                                                           \
-    int code_ = (call);                                                          \
-    if (code_ == ENOMEM) {                                                       \
-      const char *said_ = (stream)->get_last_error(stream);                      \
+#define ASK(stream, call)                                                                                   \
+  do {                                                                                                      \
+    int code_ = (call);                                                                                     \
+    if (code_ == ENOMEM) {                                                                                  \
+      const char *said_ = (stream)->get_last_error(stream);                                                 \
       if (!said_ || strcmp(said_, "memory was refused")) return fprintf(stderr, "another last error\n"), 1; \
-      answered++, code_ = (call);                                                \
-    }                                                                            \
-    if (code_) return fprintf(stderr, "%s: %d\n", #call, code_), 1;              \
+      answered++, code_ = (call);                                                                           \
+    }                                                                                                       \
+    if (code_) return fprintf(stderr, "%s: %d\n", #call, code_), 1;                                         \
   } while (0)
 
 enum { ROWS = 40 };

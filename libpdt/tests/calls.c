@@ -55,9 +55,9 @@ static void shared_texts(void) {
   static const struct {
     int code;
     const char *word;
-  } due[] = {{PDT_MISSING, "row"},      {PDT_MISSING, "table"},  {PDT_MISSING, "savepoint"},{PDT_MISSING, "commit"},
-             {PDT_MISSING, "wait"},     {PDT_EXISTS, "table"},   {PDT_EXISTS, "file"},    {PDT_TYPE_MISMATCH, "cell"},
-             {PDT_TYPE_MISMATCH, "name"},       {PDT_TYPE_MISMATCH, "format"},   {PDT_BAD_TABLE, "text"}, {PDT_BAD_TABLE, "columns"}};
+  } due[] = {{PDT_MISSING, "row"},        {PDT_MISSING, "table"},        {PDT_MISSING, "savepoint"}, {PDT_MISSING, "commit"},
+             {PDT_MISSING, "wait"},       {PDT_EXISTS, "table"},         {PDT_EXISTS, "file"},       {PDT_TYPE_MISMATCH, "cell"},
+             {PDT_TYPE_MISMATCH, "name"}, {PDT_TYPE_MISMATCH, "format"}, {PDT_BAD_TABLE, "text"},    {PDT_BAD_TABLE, "columns"}};
   for (size_t i = 0; i < sizeof due / sizeof *due; i++) is(due[i].word, 1, strstr(pdt_code_text(due[i].code), due[i].word) != NULL);
 }
 
@@ -92,8 +92,7 @@ static void openings(void) {
 
 /* The first fault of a text is told by a sentence, the record, which counts from 1 with the header, and the column. */
 static void faults(void) {
-  static const char heading[] =
-      "the cell isn't a name of 1 to 64 bytes, a colon and a type, or it is a key column after one that is not";
+  static const char heading[] = "the cell isn't a name of 1 to 64 bytes, a colon and a type, or it is a key column after one that is not";
   const struct {
     const char *text, *cause;
     uint64_t row, column;

@@ -223,8 +223,7 @@ static void outside_values(void) {
   is("fold", PDT_OK, pdt_fold(table));
   cells_are(table, 2047, -7, "seven", 1);
   is("checkpoint", PDT_OK, pdt_checkpoint_to(table, takes_all, NULL, NULL));
-  for (uint64_t row = 2046; row <= 2048; row++)
-    cells_are(table, row, row == 2047 ? -7 : 0, row == 2047 ? "seven" : "", row == 2047);
+  for (uint64_t row = 2046; row <= 2048; row++) cells_are(table, row, row == 2047 ? -7 : 0, row == 2047 ? "seven" : "", row == 2047);
   is("close", PDT_OK, pdt_close(table));
   leave_outside(given, 0);
   is("no rows outside", PDT_OK, pdt_open_columns(given, 4, 1, NULL, NULL, &table));

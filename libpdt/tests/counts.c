@@ -28,13 +28,20 @@ static void counted(const char *what, uint64_t longest) {
     const char *name;
     uint64_t due, found;
   } all[] = {
-      {"begins", due.begins, found.begins},          {"commits", due.commits, found.commits},
-      {"conflicts", due.conflicts, found.conflicts}, {"too old", due.too_old, found.too_old},
-      {"full", due.full, found.full},                {"folds", due.folds, found.folds},
-      {"checkpoints", due.checkpoints, found.checkpoints}, {"superseded", due.superseded, found.superseded},
-      {"pins", due.pins, found.pins},                {"the oldest pin", due.oldest_pin, found.oldest_pin},
-      {"kept", due.kept, found.kept},                {"kept entries", due.kept_entries, found.kept_entries},
-      {"waits", due.waits, found.waits},             {"size", sizeof found, found.size},
+      {"begins", due.begins, found.begins},
+      {"commits", due.commits, found.commits},
+      {"conflicts", due.conflicts, found.conflicts},
+      {"too old", due.too_old, found.too_old},
+      {"full", due.full, found.full},
+      {"folds", due.folds, found.folds},
+      {"checkpoints", due.checkpoints, found.checkpoints},
+      {"superseded", due.superseded, found.superseded},
+      {"pins", due.pins, found.pins},
+      {"the oldest pin", due.oldest_pin, found.oldest_pin},
+      {"kept", due.kept, found.kept},
+      {"kept entries", due.kept_entries, found.kept_entries},
+      {"waits", due.waits, found.waits},
+      {"size", sizeof found, found.size},
       {"packs", due.packs, found.packs},
   };
   for (size_t i = 0; i < sizeof all / sizeof *all; i++)

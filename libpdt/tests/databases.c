@@ -144,7 +144,14 @@ static void refuses(void) {
   pdt_table *items = created(database, "items"), *table = items;
   is("there already", PDT_EXISTS, pdt_table_create_csv(database, "items", csv, sizeof csv - 1, NULL, NULL, &table));
   is("no table", 1, !table);
-  static const char *const bad[] = {"", "a\nb", "\x7f", "\xff", "\xc0\x80", "\xed\xa0\x80", "\xf4\x90\x80\x80", "\xe2\x82",
+  static const char *const bad[] = {"",
+                                    "a\nb",
+                                    "\x7f",
+                                    "\xff",
+                                    "\xc0\x80",
+                                    "\xed\xa0\x80",
+                                    "\xf4\x90\x80\x80",
+                                    "\xe2\x82",
                                     "12345678901234567890123456789012345678901234567890123456789012345"};
   for (size_t i = 0; i < sizeof bad / sizeof *bad; i++)
     is("a bad name", PDT_TYPE_MISMATCH, pdt_table_create_csv(database, bad[i], csv, sizeof csv - 1, NULL, NULL, &table));

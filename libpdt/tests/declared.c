@@ -65,7 +65,9 @@ int __wrap_renameat(int a, const char *from, int b, const char *to) { return fal
 int __wrap_unlinkat(int dir, const char *path, int how) { return falls() ? -1 : __real_unlinkat(dir, path, how); }
 int __wrap_mkdirat(int dir, const char *path, mode_t mode) { return falls() ? -1 : __real_mkdirat(dir, path, mode); }
 struct dirent *__real_readdir(DIR *);
-struct dirent *__wrap_readdir(DIR *names) { return falls() ? NULL : __real_readdir(names); }
+struct dirent *__wrap_readdir(DIR *names) {
+  return falls() ? NULL : __real_readdir(names);
+}
 int __wrap_ftruncate(int file, off_t len) { return falls() ? -1 : __real_ftruncate(file, len); }
 
 /* ---- the run */

@@ -306,7 +306,7 @@ static void insert(client *c) {
   *old = r;
   c->now.effects[key] = c->now.effects[key] == DELETE ? REPLACE : INSERT;
 }
-static void delete(client *c) {
+static void delete (client *c) {
   int key = below(KEYS);
   bool there = c->now.rows[key].there;
   answers("delete", there ? PDT_OK : PDT_MISSING, D(pdt_delete, c->txn, (int64_t[]){key}, NULL, 0));
@@ -741,16 +741,36 @@ static bool each_was_drawn(void) {
     const char *name;
     int code;
   } due_replies[] = {
-      {"pdt_commit", PDT_CONFLICT},           {"pdt_commit", PDT_TOO_OLD},      {"pdt_commit", PDT_FULL},
-      {"pdt_prepare", PDT_CONFLICT},          {"pdt_insert", PDT_DUPLICATE},    {"pdt_insert", PDT_FULL},
-      {"pdt_delete", PDT_MISSING},            {"pdt_set", PDT_MISSING},         {"pdt_set", PDT_TYPE_MISMATCH},
-      {"pdt_rollback_to", PDT_MISSING},           {"pdt_rollback_to", PDT_OK},          {"pdt_release", PDT_OK},
-      {"pdt_get", PDT_TOO_SMALL},             {"pdt_get", PDT_MISSING},         {"pdt_give_up", PDT_OK},
-      {"pdt_checkpoint", PDT_EXISTS},         {"pdt_checkpoint", PDT_IO},       {"pdt_checkpoint_to", PDT_DEVICE_FAILED},
-      {"pdt_checkpoint_install", PDT_OK},     {"pdt_open_csv", PDT_BAD_TABLE},  {"pdt_checkpoint_install", PDT_SUPERSEDED},
-      {"pdt_checkpoint_install", PDT_MISUSE}, {"pdt_close", PDT_MISUSE},        {"pdt_fold", PDT_MISUSE},
-      {"pdt_changes", PDT_OK},                {"pdt_changes", PDT_MISSING},     {"pdt_changes", PDT_MISUSE},
-      {"pdt_wait", PDT_OK},                   {"pdt_wait", PDT_MISSING},        {"pdt_prepare", PDT_TOO_OLD},
+      {"pdt_commit", PDT_CONFLICT},
+      {"pdt_commit", PDT_TOO_OLD},
+      {"pdt_commit", PDT_FULL},
+      {"pdt_prepare", PDT_CONFLICT},
+      {"pdt_insert", PDT_DUPLICATE},
+      {"pdt_insert", PDT_FULL},
+      {"pdt_delete", PDT_MISSING},
+      {"pdt_set", PDT_MISSING},
+      {"pdt_set", PDT_TYPE_MISMATCH},
+      {"pdt_rollback_to", PDT_MISSING},
+      {"pdt_rollback_to", PDT_OK},
+      {"pdt_release", PDT_OK},
+      {"pdt_get", PDT_TOO_SMALL},
+      {"pdt_get", PDT_MISSING},
+      {"pdt_give_up", PDT_OK},
+      {"pdt_checkpoint", PDT_EXISTS},
+      {"pdt_checkpoint", PDT_IO},
+      {"pdt_checkpoint_to", PDT_DEVICE_FAILED},
+      {"pdt_checkpoint_install", PDT_OK},
+      {"pdt_open_csv", PDT_BAD_TABLE},
+      {"pdt_checkpoint_install", PDT_SUPERSEDED},
+      {"pdt_checkpoint_install", PDT_MISUSE},
+      {"pdt_close", PDT_MISUSE},
+      {"pdt_fold", PDT_MISUSE},
+      {"pdt_changes", PDT_OK},
+      {"pdt_changes", PDT_MISSING},
+      {"pdt_changes", PDT_MISUSE},
+      {"pdt_wait", PDT_OK},
+      {"pdt_wait", PDT_MISSING},
+      {"pdt_prepare", PDT_TOO_OLD},
   };
   bool all = true;
   for (int i = 0; i < CALLS; i++) {

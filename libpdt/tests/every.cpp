@@ -16,61 +16,38 @@ static bool is_heavy; /* many writes at once, and large layers */
 static void step() {
   Store *s = w->tables[(size_t)below((int64_t)w->tables.size())];
   int what = (int)below(100);
-  if (w->db && what < 25)
-    return db_step();
+  if (w->db && what < 25) return db_step();
   for (Snap *p : s->snaps)
-    if (!p->installed && one_in(5))
-      return checkpoint_parts(s);
-  if (is_heavy && one_in(6) && !s->txns.empty())
-    return bulk(s->txns[(size_t)below((int64_t)s->txns.size())]);
+    if (!p->installed && one_in(5)) return checkpoint_parts(s);
+  if (is_heavy && one_in(6) && !s->txns.empty()) return bulk(s->txns[(size_t)below((int64_t)s->txns.size())]);
   if (what < 28 || s->txns.empty()) {
-    if (s->txns.size() < 6)
-      return begin(s);
+    if (s->txns.size() < 6) return begin(s);
   }
   Txn *t = s->txns.empty() ? nullptr : s->txns[(size_t)below((int64_t)s->txns.size())];
   if (what < 50 && t) {
     int n = (int)below(6);
-    for (int i = 0; i <= n; i++)
-      write_something(t);
-    if (one_in(4))
-      apply_rows(t);
-    if (one_in(3))
-      read_own(t);
-  } else if (what < 53 && t)
-    bulk(t);
+    for (int i = 0; i <= n; i++) write_something(t);
+    if (one_in(4)) apply_rows(t);
+    if (one_in(3)) read_own(t);
+  } else if (what < 53 && t) bulk(t);
   else if (what < 66 && t) {
-    for (int i = (int)below(5); i >= 0; i--)
-      read_something(t);
-  } else if (what < 69 && t)
-    marks(t);
-  else if (what < 78 && t)
-    commit(t);
-  else if (what < 80 && t)
-    prepare(t);
-  else if (what < 82 && t)
-    abort_txn(t);
-  else if (what < 84)
-    pin(s);
-  else if (what < (is_heavy || s->snaps.empty() ? 87 : 85))
-    fold(s);
-  else if (what < 88)
-    cut(s);
-  else if (what < 89)
-    (w->db && !s->snaps.empty() ? read_columns(s) : checkpoint(s));
-  else if (what < 93)
-    checkpoint_parts(s);
-  else if (what < 94)
-    read_layers(s);
-  else if (what < 96)
-    read_changes(s);
-  else if (what < 97)
-    read_counts(s), read_columns(s);
+    for (int i = (int)below(5); i >= 0; i--) read_something(t);
+  } else if (what < 69 && t) marks(t);
+  else if (what < 78 && t) commit(t);
+  else if (what < 80 && t) prepare(t);
+  else if (what < 82 && t) abort_txn(t);
+  else if (what < 84) pin(s);
+  else if (what < (is_heavy || s->snaps.empty() ? 87 : 85)) fold(s);
+  else if (what < 88) cut(s);
+  else if (what < 89) (w->db && !s->snaps.empty() ? read_columns(s) : checkpoint(s));
+  else if (what < 93) checkpoint_parts(s);
+  else if (what < 94) read_layers(s);
+  else if (what < 96) read_changes(s);
+  else if (what < 97) read_counts(s), read_columns(s);
   else if (what < 98) {
     if (one_in(4)) {
-      if (w->db)
-        db_reopen();
-      else
-        reopen(s);
+      if (w->db) db_reopen();
+      else reopen(s);
     }
   } else {
     Txn fresh;
@@ -102,10 +79,8 @@ static void run_case(uint64_t of, long steps) {
     open_table(s);
   }
   notes[w->db ? "cases of databases" : "cases of tables alone"]++;
-  for (step_no = 1; step_no <= steps; step_no++)
-    step();
-  for (Store *s : w->tables)
-    read_counts(s);
+  for (step_no = 1; step_no <= steps; step_no++) step();
+  for (Store *s : w->tables) read_counts(s);
   if (w->db) {
     db_reopen();
     db_close();
@@ -116,8 +91,7 @@ static void run_case(uint64_t of, long steps) {
       answers("close", PDT_OK, D(pdt_close, s->h));
     }
   }
-  for (Store *s : w->tables)
-    delete s;
+  for (Store *s : w->tables) delete s;
   arena.clear();
 #ifdef REFUSING
   is("blocks that are left", 0, blocks);
@@ -130,29 +104,23 @@ static const char *const names[] = {
 #include "database_calls.h"
 };
 int main(int argc, char **argv) {
-  if (argc < 4)
-    return 2;
+  if (argc < 4) return 2;
   room = argv[1];
   long wanted = atol(argv[2]), steps = argc > 4 ? atol(argv[4]) : 300;
   uint64_t first = strtoull(argv[3], nullptr, 10);
   traces = getenv("TRACE") != nullptr;
   is_big = getenv("BIG") != nullptr;
-  while (cases < wanted)
-    run_case(first++, steps);
+  while (cases < wanted) run_case(first++, steps);
   printf("%ld cases, %ld calls, 0 differences\n", cases, made);
-  if (refuses)
-    printf("  refused: %ld; told by PDT_NOMEM: %ld; answered otherwise: %ld\n", refusals, refusals_told, refusals_borne);
+  if (refuses) printf("  refused: %ld; told by PDT_NOMEM: %ld; answered otherwise: %ld\n", refusals, refusals_told, refusals_borne);
   for (auto &d : drawn) {
     printf("  %-28s %9ld ", d.first.c_str(), d.second);
-    for (auto &r : replies[d.first])
-      printf(" %d:%ld", r.first, r.second);
+    for (auto &r : replies[d.first]) printf(" %d:%ld", r.first, r.second);
     printf("\n");
   }
-  for (auto &n : notes)
-    printf("  %-50s %ld\n", n.first.c_str(), n.second);
+  for (auto &n : notes) printf("  %-50s %ld\n", n.first.c_str(), n.second);
   bool lacks = false;
   for (const char *name : names)
-    if (!drawn[name])
-      lacks = fprintf(stderr, "never drawn: %s\n", name);
+    if (!drawn[name]) lacks = fprintf(stderr, "never drawn: %s\n", name);
   return lacks && wanted >= 40;
 }

@@ -94,20 +94,22 @@ int __wrap_renameat(int a, const char *from, int b, const char *to) { return fal
 int __wrap_unlinkat(int dir, const char *path, int how) { return falls("unlinkat") ? -1 : __real_unlinkat(dir, path, how); }
 int __wrap_mkdirat(int dir, const char *path, mode_t mode) { return falls("mkdirat") ? -1 : __real_mkdirat(dir, path, mode); }
 struct dirent *__real_readdir(DIR *);
-struct dirent *__wrap_readdir(DIR *names) { return falls("readdir") ? NULL : __real_readdir(names); }
+struct dirent *__wrap_readdir(DIR *names) {
+  return falls("readdir") ? NULL : __real_readdir(names);
+}
 int __wrap_ftruncate(int file, off_t len) { return falls("ftruncate") ? -1 : __real_ftruncate(file, len); }
 
 /* ---- the run */
 
-static pdt_database_options options = {.size = sizeof options, .no_maintenance = true, .fold_entries = 4, .checkpoint_entries = 8,
-                                       .journal_bytes = 600};
+static pdt_database_options options = {
+    .size = sizeof options, .no_maintenance = true, .fold_entries = 4, .checkpoint_entries = 8, .journal_bytes = 600};
 static const char csv[] = "id:int:key,qty:int\n0,0\n1,0\n2,0\n";
 enum { KEYS = 3, COMMITS = 24 };
 
 /* What was told so far. */
 typedef struct {
   uint64_t answered; /* the number of the last commit that was answered PDT_OK */
-  uint64_t unknown;   /* and of one that was answered PDT_OUTCOME_UNKNOWN, or 0 */
+  uint64_t unknown;  /* and of one that was answered PDT_OUTCOME_UNKNOWN, or 0 */
   bool is_made;      /* the table is */
 } told;
 

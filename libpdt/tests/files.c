@@ -31,7 +31,7 @@ static const char *fails_at; /* a call that fails, as it is written down, or nul
 static long fails_after;     /* any call, after so many; less than 0: none */
 static int fails_with;       /* errno */
 static bool failed;
-static size_t at_most;       /* how many bytes a write or a read takes */
+static size_t at_most; /* how many bytes a write or a read takes */
 
 int __real_open(const char *, int, ...);
 ssize_t __real_write(int, const void *, size_t);
@@ -287,8 +287,8 @@ static void named_calls(void) {
 /* ---- signals, and writes and reads that take few bytes */
 
 static void cut_short(void) {
-  static const char *const calls[] = {"make header", "write header", "sync header", "make column-0", "write column-1",
-                                      "sync column-1", "open folder-", "sync folder-", "open ..", "sync .."};
+  static const char *const calls[] = {"make header",   "write header", "sync header",  "make column-0", "write column-1",
+                                      "sync column-1", "open folder-", "sync folder-", "open ..",       "sync .."};
   pdt_table *table = opened(), *again = NULL;
   set(table, "Rob");
   for (size_t i = 0; i < sizeof calls / sizeof *calls; i++) {

@@ -13,10 +13,10 @@
 int fsync(int file) { return (void)file, 0; } /* in place of the C library's */
 
 /* Makes a call, and once more where memory was refused. */
-#define CALL(call)                                                                   \
-  do {                                                                               \
-    int code_ = (call);                                                              \
-    if (code_ == PDT_NOMEM && refused) refused = false, answered++, code_ = (call);  \
+#define CALL(call)                                                                           \
+  do {                                                                                       \
+    int code_ = (call);                                                                      \
+    if (code_ == PDT_NOMEM && refused) refused = false, answered++, code_ = (call);          \
     if (code_ != PDT_OK) return fprintf(stderr, "%s: %s\n", #call, pdt_code_text(code_)), 1; \
   } while (0)
 

@@ -68,8 +68,8 @@ static bool find(const char *name, pdt_table **table) { return !pdt_table_open(d
 static void open_all(const char *folder) {
   pdt_report report = {.size = sizeof report};
   int code = pdt_database_open(folder, &options, &database, &report);
-  if (code) fprintf(stderr, "open: %s, commit %llu, file %s\n", pdt_code_text(code), (unsigned long long)report.fault,
-                    report.file), exit(1);
+  if (code)
+    fprintf(stderr, "open: %s, commit %llu, file %s\n", pdt_code_text(code), (unsigned long long)report.fault, report.file), exit(1);
   int64_t ids[ACCOUNTS], money[ACCOUNTS];
   for (int i = 0; i < ACCOUNTS; i++) ids[i] = i, money[i] = MONEY;
   pdt_column columns[] = {{"id", PDT_INT, ACCOUNTS, ids, NULL, NULL, 0}, {"money", PDT_INT, ACCOUNTS, money, NULL, NULL, 0}};

@@ -18,9 +18,9 @@ static void is(const char *what, long long wanted, long long found) {
 
 static __thread int holds, takes; /* how many locks of tables this thread holds, and how often it took one */
 static __thread int shorts;       /* how many of the others it holds */
-static int kept;          /* how many of the locks of tables a prepared commit of this thread keeps */
-static bool is_of_files;  /* a database is at work, which has further locks */
-static pdt_table *ending; /* of a checkpoint that ends: it counts until the lock is taken, and keeps its table from closing */
+static int kept;                  /* how many of the locks of tables a prepared commit of this thread keeps */
+static bool is_of_files;          /* a database is at work, which has further locks */
+static pdt_table *ending;         /* of a checkpoint that ends: it counts until the lock is taken, and keeps its table from closing */
 
 enum { STORES = 16 };
 static const pthread_mutex_t *tables[STORES];
@@ -72,12 +72,12 @@ int __wrap_pthread_mutex_destroy(pthread_mutex_t *lock) {
 #define WITH_LOCK(result, name, params, args) WRAPPED(1, 0, result, name, params, args)
 #define WITHOUT_LOCK(result, name, params, args) WRAPPED(0, 0, result, name, params, args)
 #define WITHSHORT_LOCK(result, name, params, args) WRAPPED(0, 1, result, name, params, args)
-#define WRAPPED(lock, other, result, name, params, args) \
-  result __real_##name params;                           \
-  result __wrap_##name params {                          \
+#define WRAPPED(lock, other, result, name, params, args)    \
+  result __real_##name params;                              \
+  result __wrap_##name params {                             \
     is_of_lock(#name " and the lock", lock, holds - kept);  \
     is_of_lock(#name " and the other lock", other, shorts); \
-    return __real_##name args;                           \
+    return __real_##name args;                              \
   }
 WITH_LOCK(uint64_t, pdtr_commits, (void *s), (s))
 WITH_LOCK(size_t, pdtr_write_entries, (void *s), (s))
@@ -206,13 +206,13 @@ static pdt_txn *setting(pdt_table *table, const char *name) {
 }
 
 /* Makes a call, which takes the lock so often, and has so many more locks after it. */
-#define TAKES(wanted, more, call)                  \
-  do {                                             \
-    int before = holds;                            \
-    takes = 0;                                     \
-    (void)(call);                                  \
-    is(#call " takes the lock", wanted, takes);    \
-    is(#call " keeps it", more, holds - before);   \
+#define TAKES(wanted, more, call)                \
+  do {                                           \
+    int before = holds;                          \
+    takes = 0;                                   \
+    (void)(call);                                \
+    is(#call " takes the lock", wanted, takes);  \
+    is(#call " keeps it", more, holds - before); \
   } while (0)
 
 static void table_calls(const char *room) {
@@ -432,10 +432,10 @@ static void unshared(void) {
 }
 
 /* What makes the newest version anew shares it once: else begins go on with the older one, and keep all that it has. */
-#define SHARES(wanted, call)                                \
-  do {                                                      \
-    shared = 0;                                             \
-    is(#call, PDT_OK, call);                                \
+#define SHARES(wanted, call)                                 \
+  do {                                                       \
+    shared = 0;                                              \
+    is(#call, PDT_OK, call);                                 \
     is(#call " shares what is newest then", wanted, shared); \
   } while (0)
 static void shares(const char *room) {
@@ -499,12 +499,12 @@ static pdt_txn *setting_at(pdt_table *table, int64_t key) {
 }
 
 /* Makes a call, which frees something, or nothing, and nothing of it with the lock. */
-#define FREES(some, wanted, call)                                \
-  do {                                                           \
-    frees = frees_with_lock = 0;                                 \
-    is(#call, wanted, call);                                     \
+#define FREES(some, wanted, call)                                   \
+  do {                                                              \
+    frees = frees_with_lock = 0;                                    \
+    is(#call, wanted, call);                                        \
     is(#call " frees something with the lock", 0, frees_with_lock); \
-    is(#call " frees something", some, frees > 0);               \
+    is(#call " frees something", some, frees > 0);                  \
   } while (0)
 static void lets_go(void) {
   pdt_table *table = opened(2); /* the trees of two commits are kept: the third one lets the first one's go */

@@ -36,8 +36,7 @@ static double now() {
   abort();
 }
 static void is(const char *what, long long wanted, long long found) {
-  if (wanted != found)
-    fail(what, wanted, found);
+  if (wanted != found) fail(what, wanted, found);
 }
 struct Random {
   uint64_t s;
@@ -97,12 +96,10 @@ static int64_t by_ints(pdt_txn *t, size_t c, Random &r, vector<int64_t> *all) {
     is("ints", PDT_OK, pdt_ints(t, c, at, some.data(), &count));
     for (size_t i = 0; i < count; i++) {
       sum += some[i];
-      if (all)
-        all->push_back(some[i]);
+      if (all) all->push_back(some[i]);
     }
     at += count;
-    if (count < some.size())
-      return sum;
+    if (count < some.size()) return sum;
   }
 }
 static int64_t by_spans(pdt_txn *t, size_t c, Random &r) {
@@ -113,11 +110,9 @@ static int64_t by_spans(pdt_txn *t, size_t c, Random &r) {
     uint64_t rows = 0;
     is("pieces", PDT_OK, pdt_int_spans(t, c, at, UINT64_MAX, some.data(), &count, &rows));
     for (size_t i = 0; i < count; i++)
-      for (uint64_t k = 0; k < some[i].count; k++)
-        sum += some[i].at ? some[i].at[k] : some[i].number;
+      for (uint64_t k = 0; k < some[i].count; k++) sum += some[i].at ? some[i].at[k] : some[i].number;
     at += rows;
-    if (count < some.size())
-      return sum;
+    if (count < some.size()) return sum;
   }
 }
 static int64_t by_cells(pdt_txn *t, size_t c, Random &r) {
@@ -126,11 +121,9 @@ static int64_t by_cells(pdt_txn *t, size_t c, Random &r) {
   for (uint64_t at = 0;;) {
     size_t count = some.size(), bytes;
     is("cells", PDT_OK, pdt_cells(t, c, at, some.data(), &count, nullptr, 0, &bytes));
-    for (size_t i = 0; i < count; i++)
-      sum += some[i];
+    for (size_t i = 0; i < count; i++) sum += some[i];
     at += count;
-    if (count < some.size())
-      return sum;
+    if (count < some.size()) return sum;
   }
 }
 static int64_t by_rows(pdt_txn *t) {
@@ -158,8 +151,7 @@ static int64_t by_row_runs(pdt_txn *t, const File &file, Random &r, vector<int64
       for (uint64_t k = 0; k < p.rows; k++) {
         int64_t n;
         uint8_t changed[WIDTH];
-        if (p.source == PDT_CHANGED)
-          is("changed", PDT_OK, pdt_changed(t, at, changed, WIDTH));
+        if (p.source == PDT_CHANGED) is("changed", PDT_OK, pdt_changed(t, at, changed, WIDTH));
         if (p.source == PDT_STABLE || (p.source == PDT_CHANGED && !changed[OUTSIDE])) {
           is("within the file", 1, p.sid + k < file->size());
           n = (*file)[p.sid + k];
@@ -168,13 +160,11 @@ static int64_t by_row_runs(pdt_txn *t, const File &file, Random &r, vector<int64
           is("a cell", PDT_OK, pdt_ints(t, OUTSIDE, at, &n, &one));
         }
         sum += n;
-        if (all)
-          all->push_back(n);
+        if (all) all->push_back(n);
         at++;
       }
     }
-    if (count < some.size())
-      return sum;
+    if (count < some.size()) return sum;
   }
 }
 static uint64_t texts_hash(pdt_txn *t) {
@@ -185,11 +175,9 @@ static uint64_t texts_hash(pdt_txn *t) {
     size_t count = 300;
     is("texts", PDT_OK, pdt_texts(t, TEXT, from, at, lens, &count));
     for (size_t i = 0; i < count; i++)
-      for (int64_t k = 0; k < lens[i]; k++)
-        h = (h ^ (uint8_t)at[i][k]) * 1099511628211u;
+      for (int64_t k = 0; k < lens[i]; k++) h = (h ^ (uint8_t)at[i][k]) * 1099511628211u;
     from += count;
-    if (count < 300)
-      return h;
+    if (count < 300) return h;
   }
 }
 static int64_t bools_sum(pdt_txn *t) {
@@ -198,11 +186,9 @@ static int64_t bools_sum(pdt_txn *t) {
   for (uint64_t from = 0;;) {
     size_t count = 333;
     is("bools", PDT_OK, pdt_bools(t, FLAG, from, some, &count));
-    for (size_t i = 0; i < count; i++)
-      sum += some[i] * (int64_t)(from + i + 1);
+    for (size_t i = 0; i < count; i++) sum += some[i] * (int64_t)(from + i + 1);
     from += count;
-    if (count < 333)
-      return sum;
+    if (count < 333) return sum;
   }
 }
 static int64_t inside_sum(pdt_txn *t, const File &file, Random &r) {
@@ -221,8 +207,7 @@ static void move_money(pdt_txn *h, int64_t from, int64_t to, int64_t amount, pdt
   char text[64];
   if (pdt_get(h, &from, nullptr, 0, a, text, sizeof text, nullptr) || pdt_get(h2, &to, nullptr, 0, b, text, sizeof text, nullptr))
     fail("an account", 0, 1);
-  if (from == to && h == h2)
-    return;
+  if (from == to && h == h2) return;
   is("set", PDT_OK, pdt_set(h, &from, nullptr, 0, INSIDE, a[INSIDE] - amount, nullptr));
   is("set", PDT_OK, pdt_set(h, &from, nullptr, 0, OUTSIDE, a[INSIDE] - amount, nullptr));
   is("set", PDT_OK, pdt_set(h2, &to, nullptr, 0, INSIDE, b[INSIDE] + amount, nullptr));
@@ -232,19 +217,15 @@ static void come_and_go(pdt_txn *h, Random &r) {
   int64_t key = 2 * r.below(ACCOUNTS) + 1, row[WIDTH] = {key, 0, 3, 1, 0};
   if (r.one_in(2)) {
     int code = pdt_insert(h, row, "new", 3);
-    if (code != PDT_OK && code != PDT_DUPLICATE)
-      fail("insert", 0, code);
+    if (code != PDT_OK && code != PDT_DUPLICATE) fail("insert", 0, code);
   } else {
     int code = pdt_delete(h, &key, nullptr, 0);
-    if (code != PDT_OK && code != PDT_MISSING)
-      fail("delete", 0, code);
+    if (code != PDT_OK && code != PDT_MISSING) fail("delete", 0, code);
   }
   int64_t other = 2 * r.below(ACCOUNTS);
-  if (r.one_in(3))
-    pdt_set(h, &other, nullptr, 0, FLAG, r.below(2), nullptr);
+  if (r.one_in(3)) pdt_set(h, &other, nullptr, 0, FLAG, r.below(2), nullptr);
   string text = "t" + std::to_string(r.below(1000));
-  if (r.one_in(3))
-    pdt_set(h, &other, nullptr, 0, TEXT, (int64_t)text.size(), text.data());
+  if (r.one_in(3)) pdt_set(h, &other, nullptr, 0, TEXT, (int64_t)text.size(), text.data());
 }
 /* What was answered is seen by what begins. */
 static void is_seen(Table *t, uint64_t number) {
@@ -252,8 +233,7 @@ static void is_seen(Table *t, uint64_t number) {
   uint64_t seen = 0;
   is("begin", PDT_OK, pdt_begin(t->h, &h));
   is("begun", PDT_OK, pdt_txn_version(h, &seen));
-  if (seen < number)
-    fail("a begin after an answer", (long long)number, (long long)seen);
+  if (seen < number) fail("a begin after an answer", (long long)number, (long long)seen);
   pdt_abort(h);
 }
 /* Ends a transaction with writes in one of the ways. */
@@ -264,24 +244,20 @@ static int end(Table *t, pdt_txn *h, Random &r, Tally &y) {
     case 0:
       code = pdt_prepare(h, &number);
       y.n["prepare " + std::to_string(code)]++;
-      if (code)
-        return code;
+      if (code) return code;
       if (r.one_in(4)) {
         is("give up", PDT_OK, pdt_give_up(h));
         pdt_abort(h);
         return -1;
       }
-      if (r.one_in(5))
-        usleep(200);
+      if (r.one_in(5)) usleep(200);
       code = pdt_install(h);
       y.n["install " + std::to_string(code)]++;
       break;
     default: code = pdt_commit(h, &number); y.n["commit " + std::to_string(code)]++;
   }
-  if (!code)
-    y.numbers.push_back(number);
-  if (!code)
-    is_seen(t, number);
+  if (!code) y.numbers.push_back(number);
+  if (!code) is_seen(t, number);
   return code;
 }
 static void mutate(Table *t, Random &r, Tally &y) {
@@ -289,8 +265,7 @@ static void mutate(Table *t, Random &r, Tally &y) {
   int n = 1 + (int)r.below(r.one_in(20) ? 60 : 4);
   for (int i = 0; i < n; i++) {
     move_money(o.h, 2 * r.below(ACCOUNTS), 2 * r.below(ACCOUNTS), 1 + r.below(9), o.h);
-    if (r.one_in(3))
-      come_and_go(o.h, r);
+    if (r.one_in(3)) come_and_go(o.h, r);
   }
   if (r.one_in(10)) {
     size_t level;
@@ -302,19 +277,16 @@ static void mutate(Table *t, Random &r, Tally &y) {
   int64_t key = 2 * r.below(ACCOUNTS);
   is("set", PDT_OK, pdt_set(o.h, &key, nullptr, 0, FLAG, r.below(2), nullptr));
   int code = end(t, o.h, r, y);
-  if (code > 0 && code != PDT_CONFLICT && code != PDT_TOO_OLD)
-    fail("a commit", 0, code);
+  if (code > 0 && code != PDT_CONFLICT && code != PDT_TOO_OLD) fail("a commit", 0, code);
 }
 static void look(Table *t, Random &r, Tally &y) {
   Open o = begin(t);
-  if (!database)
-    is("the sum", (long long)ACCOUNTS * MONEY, inside_sum(o.h, o.file, r));
+  if (!database) is("the sum", (long long)ACCOUNTS * MONEY, inside_sum(o.h, o.file, r));
   if (o.file && r.one_in(2)) {
     vector<int64_t> in, out;
     by_ints(o.h, INSIDE, r, &in);
     by_row_runs(o.h, o.file, r, &out);
-    if (in != out)
-      fail("the column outside", 0, 1);
+    if (in != out) fail("the column outside", 0, 1);
     y.n["columns outside compared"]++;
   }
   pdt_abort(o.h);
@@ -324,8 +296,7 @@ static void look(Table *t, Random &r, Tally &y) {
 static void pinned(Table *t, Random &r, Tally &y) {
   std::unique_lock<std::mutex> l(t->pin_lock);
   if (!t->pin || (t->pin_users == 0 && r.one_in(30))) {
-    if (t->pin)
-      pdt_unpin(t->pin);
+    if (t->pin) pdt_unpin(t->pin);
     t->seen.clear();
     std::shared_lock<std::shared_mutex> b(t->begins);
     t->pin_file = t->file;
@@ -354,18 +325,15 @@ static void pinned(Table *t, Random &r, Tally &y) {
     int64_t key = 2 * r.below(ACCOUNTS);
     is("set", PDT_OK, pdt_set(h, &key, nullptr, 0, FLAG, 1, nullptr));
     int code = end(t, h, r, y);
-    if (code > 0 && code != PDT_CONFLICT && code != PDT_TOO_OLD)
-      fail("a late commit", 0, code);
+    if (code > 0 && code != PDT_CONFLICT && code != PDT_TOO_OLD) fail("a late commit", 0, code);
     y.n["late commit " + std::to_string(code)]++;
   } else {
     pdt_abort(h);
   }
   l.lock();
   auto it = t->seen.find(what);
-  if (it == t->seen.end())
-    t->seen[what] = found;
-  else
-    is(what.c_str(), (long long)it->second, (long long)found);
+  if (it == t->seen.end()) t->seen[what] = found;
+  else is(what.c_str(), (long long)it->second, (long long)found);
   t->pin_users--;
 }
 static int remove_one(const char *path, const struct stat *, int, struct FTW *) { return remove(path); }
@@ -383,8 +351,7 @@ static void keep_up(Table *t, Random &r, Tally &y) {
       y.n["folds"]++;
       break;
     case 3:
-      if (r.one_in(6))
-        is("cut", PDT_OK, pdt_trim(t->h)), y.n["cuts"]++;
+      if (r.one_in(6)) is("cut", PDT_OK, pdt_trim(t->h)), y.n["cuts"]++;
       break;
     case 4: {
       pdt_layer *a, *b;
@@ -393,8 +360,7 @@ static void keep_up(Table *t, Random &r, Tally &y) {
       int64_t row[WIDTH];
       char text[4096];
       pdt_entry e;
-      if (n)
-        is("entry", PDT_OK, pdt_entry_at(a, (size_t)r.below((int64_t)n), &e, row, text, sizeof text));
+      if (n) is("entry", PDT_OK, pdt_entry_at(a, (size_t)r.below((int64_t)n), &e, row, text, sizeof text));
       pdt_layer_close(a);
       pdt_layer_close(b);
       y.n["layers"]++;
@@ -408,24 +374,20 @@ static void keep_up(Table *t, Random &r, Tally &y) {
       is("size", PDT_OK, pdt_size(t->h, &s));
       uint64_t number = 0;
       int code = pdt_wait(t->h, s.commits, (uint64_t)r.below(3), &number);
-      if (code == PDT_OK)
-        is("waited", 1, number > s.commits);
+      if (code == PDT_OK) is("waited", 1, number > s.commits);
       y.n["waits " + std::to_string(code)]++;
       break;
     }
     case 6: {
-      if (!r.one_in(4))
-        break;
-      if (t->outside)
-        break; /* replaces the stable table in one call */
+      if (!r.one_in(4)) break;
+      if (t->outside) break; /* replaces the stable table in one call */
       size_t bytes = 0;
       is("checkpoint to", PDT_OK, pdt_checkpoint_to(t->h, take, &bytes, nullptr));
       y.n["checkpoints in one call"]++;
       break;
     }
     default: {
-      if (!r.one_in(3))
-        break;
+      if (!r.one_in(3)) break;
       pdt_open_checkpoint *s;
       uint64_t number;
       File file;
@@ -435,8 +397,7 @@ static void keep_up(Table *t, Random &r, Tally &y) {
         is("begin a checkpoint", PDT_OK, pdt_checkpoint_begin(t->h, &number, &s));
       }
       string f = room + "/c" + std::to_string(folders++);
-      if (mkdir(f.c_str(), 0777))
-        abort();
+      if (mkdir(f.c_str(), 0777)) abort();
       File next;
       if (t->outside) {
         pdt_txn *h;
@@ -454,10 +415,8 @@ static void keep_up(Table *t, Random &r, Tally &y) {
         std::unique_lock<std::shared_mutex> l(t->begins);
         int code = pdt_checkpoint_install(s);
         y.n["install of a checkpoint " + std::to_string(code)]++;
-        if (code == PDT_OK && t->outside)
-          t->file = next;
-        if (code != PDT_OK && code != PDT_SUPERSEDED)
-          fail("install", 0, code);
+        if (code == PDT_OK && t->outside) t->file = next;
+        if (code != PDT_OK && code != PDT_SUPERSEDED) fail("install", 0, code);
       }
       pdt_checkpoint_end(s);
       pdt_table *other;
@@ -465,8 +424,7 @@ static void keep_up(Table *t, Random &r, Tally &y) {
         is("recover", PDT_OK, pdt_recover(f.c_str(), nullptr, &other));
         pdt_txn *h;
         is("begin", PDT_OK, pdt_begin(other, &h));
-        if (!database)
-          is("the sum of what was written", (long long)ACCOUNTS * MONEY, by_ints(h, INSIDE, r, nullptr));
+        if (!database) is("the sum of what was written", (long long)ACCOUNTS * MONEY, by_ints(h, INSIDE, r, nullptr));
         pdt_abort(h);
         is("close", PDT_OK, pdt_close(other));
       }
@@ -482,8 +440,7 @@ static void follow(Table *t, Tally &y) {
   pdt_unpin(pin);
   for (int i = 0; i < 50 && !stop; i++) {
     uint64_t number;
-    if (pdt_wait(t->h, at, 3, &number))
-      continue;
+    if (pdt_wait(t->h, at, 3, &number)) continue;
     while (at < number) {
       pdt_layer *l;
       int code = pdt_changes(t->h, at + 1, &l);
@@ -492,13 +449,11 @@ static void follow(Table *t, Tally &y) {
         return;
       }
       is("changes", PDT_OK, code);
-      if (!database && !pdt_layer_size(l))
-        fail("a commit of nothing", 1, 0);
+      if (!database && !pdt_layer_size(l)) fail("a commit of nothing", 1, 0);
       int64_t row[WIDTH];
       char text[4096];
       pdt_entry e;
-      for (size_t k = 0; k < pdt_layer_size(l); k++)
-        is("entry", PDT_OK, pdt_entry_at(l, k, &e, row, text, sizeof text));
+      for (size_t k = 0; k < pdt_layer_size(l); k++) is("entry", PDT_OK, pdt_entry_at(l, k, &e, row, text, sizeof text));
       pdt_layer_close(l);
       at++;
       y.n["feed followed"]++;
@@ -524,20 +479,15 @@ static void dbtxn(Random &r, Tally &y) {
   size_t a = (size_t)r.below((int64_t)tables.size()), b = (size_t)r.below((int64_t)tables.size());
   is("on", PDT_OK, pdt_dbtxn_on(k, tables[a]->h, &h[a]));
   is("on", PDT_OK, pdt_dbtxn_on(k, tables[b]->h, &h[b]));
-  for (int i = 0; i < 3; i++)
-    move_money(h[a], 2 * r.below(ACCOUNTS), 2 * r.below(ACCOUNTS), 1 + r.below(20), h[b]);
-  if (r.one_in(3))
-    come_and_go(h[b], r);
+  for (int i = 0; i < 3; i++) move_money(h[a], 2 * r.below(ACCOUNTS), 2 * r.below(ACCOUNTS), 1 + r.below(20), h[b]);
+  if (r.one_in(3)) come_and_go(h[b], r);
   int64_t key = 2 * r.below(ACCOUNTS);
   is("set", PDT_OK, pdt_set(h[a], &key, nullptr, 0, FLAG, r.below(2), nullptr));
   uint64_t number;
   int code = pdt_dbtxn_commit(k, &number);
-  if (code && code != PDT_CONFLICT && code != PDT_TOO_OLD)
-    fail("a database transaction's commit", 0, code);
-  if (!code)
-    y.numbers.push_back(number);
-  if (!code)
-    is_seen(tables[a], number);
+  if (code && code != PDT_CONFLICT && code != PDT_TOO_OLD) fail("a database transaction's commit", 0, code);
+  if (!code) y.numbers.push_back(number);
+  if (!code) is_seen(tables[a], number);
   y.n["work " + std::to_string(code)]++;
 }
 /* Makes and drops a table of its own meanwhile. */
@@ -553,12 +503,10 @@ static void tables_come(int me, Random &r, Tally &y) {
     uint64_t number;
     is("commit", PDT_OK, pdt_commit(h, &number));
     y.numbers.push_back(number);
-  } else if (code != PDT_EXISTS)
-    fail("create", 0, code);
+  } else if (code != PDT_EXISTS) fail("create", 0, code);
   if (r.one_in(2)) {
     code = pdt_table_drop(database, name.c_str());
-    if (code && code != PDT_MISUSE && code != PDT_MISSING)
-      fail("drop", 0, code);
+    if (code && code != PDT_MISUSE && code != PDT_MISSING) fail("drop", 0, code);
     y.n["drop " + std::to_string(code)]++;
   }
 }
@@ -568,22 +516,14 @@ static void run(int me, uint64_t seed, Tally *y) {
     Table *t = tables[(size_t)r.below((int64_t)tables.size())];
     int what = (int)r.below(100);
     if (database) {
-      if (what < 40)
-        dbtxn(r, *y);
-      else if (what < 62)
-        mutate(t, r, *y);
-      else if (what < 74)
-        pinned(t, r, *y);
-      else if (what < 80)
-        look(t, r, *y);
-      else if (what < 84)
-        keep_up(t, r, *y);
-      else if (what < 86)
-        tables_come(me, r, *y);
-      else if (what < 88)
-        is("maintenance", PDT_OK, pdt_maintain(database));
-      else if (what < 90)
-        follow(t, *y);
+      if (what < 40) dbtxn(r, *y);
+      else if (what < 62) mutate(t, r, *y);
+      else if (what < 74) pinned(t, r, *y);
+      else if (what < 80) look(t, r, *y);
+      else if (what < 84) keep_up(t, r, *y);
+      else if (what < 86) tables_come(me, r, *y);
+      else if (what < 88) is("maintenance", PDT_OK, pdt_maintain(database));
+      else if (what < 90) follow(t, *y);
       else {
         pdt_database_counts c{};
         c.size = sizeof c;
@@ -593,16 +533,11 @@ static void run(int me, uint64_t seed, Tally *y) {
         pdt_table_name(database, 0, name, sizeof name);
       }
     } else {
-      if (what < 55)
-        mutate(t, r, *y);
-      else if (what < 75)
-        pinned(t, r, *y);
-      else if (what < 90)
-        look(t, r, *y);
-      else if (what < 98)
-        keep_up(t, r, *y);
-      else
-        follow(t, *y);
+      if (what < 55) mutate(t, r, *y);
+      else if (what < 75) pinned(t, r, *y);
+      else if (what < 90) look(t, r, *y);
+      else if (what < 98) keep_up(t, r, *y);
+      else follow(t, *y);
     }
   }
 }
@@ -622,8 +557,7 @@ static void columns_of(vector<int64_t> &ids, vector<int64_t> &money, vector<uint
   c[4] = {"outside", outside ? PDT_INT | PDT_OUTSIDE : PDT_INT, ACCOUNTS, outside ? nullptr : money.data(), nullptr, nullptr, 0};
 }
 int main(int argc, char **argv) {
-  if (argc < 6)
-    return 2;
+  if (argc < 6) return 2;
   room = argv[1];
   string mode = argv[2];
   double seconds = atof(argv[3]);
@@ -642,8 +576,7 @@ int main(int argc, char **argv) {
     Table *t = new Table;
     t->outside = mode == "alone";
     columns_of(ids, money, offsets, flags, c, t->outside);
-    if (t->outside)
-      t->file = std::make_shared<vector<int64_t>>(money);
+    if (t->outside) t->file = std::make_shared<vector<int64_t>>(money);
     is("open", PDT_OK, pdt_open_columns(c, WIDTH, 1, &o, nullptr, &t->h));
     tables.push_back(t);
   } else {
@@ -662,14 +595,11 @@ int main(int argc, char **argv) {
   }
   vector<Tally> tallies((size_t)threads);
   vector<std::thread> all;
-  for (int i = 0; i < threads; i++)
-    all.emplace_back(run, i, seed, &tallies[(size_t)i]);
+  for (int i = 0; i < threads; i++) all.emplace_back(run, i, seed, &tallies[(size_t)i]);
   double until = now() + seconds;
-  while (now() < until)
-    usleep(50000);
+  while (now() < until) usleep(50000);
   stop = true;
-  for (auto &t : all)
-    t.join();
+  for (auto &t : all) t.join();
   /* each number once */
   uint64_t newest;
   if (database) {
@@ -692,21 +622,17 @@ int main(int argc, char **argv) {
   std::map<string, long> sums;
   for (auto &y : tallies) {
     for (uint64_t n : y.numbers) {
-      if (n == 0 || n > newest)
-        fail("a number", (long long)newest, (long long)n);
-      if (told[n]++)
-        fail("a number twice", (long long)n, 2);
+      if (n == 0 || n > newest) fail("a number", (long long)newest, (long long)n);
+      if (told[n]++) fail("a number twice", (long long)n, 2);
       count++;
     }
-    for (auto &s : y.n)
-      sums[s.first] += s.second;
+    for (auto &s : y.n) sums[s.first] += s.second;
   }
   is("each number once", (long long)newest, (long long)count);
   vector<int64_t> last[8];
   for (size_t i = 0; i < tables.size(); i++) {
     Table *t = tables[i];
-    if (t->pin)
-      pdt_unpin(t->pin);
+    if (t->pin) pdt_unpin(t->pin);
     Open b = begin(t);
     by_ints(b.h, INSIDE, r, &last[i]);
     pdt_abort(b.h);
@@ -722,20 +648,17 @@ int main(int argc, char **argv) {
       Open b = begin(tables[i]);
       vector<int64_t> again;
       by_ints(b.h, INSIDE, r, &again);
-      if (again != last[i])
-        fail("a table that was opened again", 0, 1);
+      if (again != last[i]) fail("a table that was opened again", 0, 1);
       pdt_abort(b.h);
     }
     is("close", PDT_OK, pdt_database_close(database));
   } else {
     is("close", PDT_OK, pdt_close(tables[0]->h));
   }
-  for (Table *t : tables)
-    delete t;
+  for (Table *t : tables) delete t;
   nftw(path.c_str(), remove_one, 8, FTW_DEPTH | FTW_PHYS);
   printf("%s, seed %" PRIu64 ", %d threads, %.0f s: %" PRIu64 " commits, 0 differences;", mode.c_str(), seed, threads, seconds, newest);
-  for (auto &s : sums)
-    printf(" %s: %ld;", s.first.c_str(), s.second);
+  for (auto &s : sums) printf(" %s: %ld;", s.first.c_str(), s.second);
   printf("\n");
   return 0;
 }

@@ -9,10 +9,10 @@
 
 static long answered;
 /* Makes a call, and once more where memory was refused. */
-#define CALL(call)                                                                   \
-  do {                                                                               \
-    int code_ = (call);                                                              \
-    if (code_ == PDT_NOMEM) answered++, code_ = (call);                              \
+#define CALL(call)                                                                           \
+  do {                                                                                       \
+    int code_ = (call);                                                                      \
+    if (code_ == PDT_NOMEM) answered++, code_ = (call);                                      \
     if (code_ != PDT_OK) return fprintf(stderr, "%s: %s\n", #call, pdt_code_text(code_)), 1; \
   } while (0)
 

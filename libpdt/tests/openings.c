@@ -38,11 +38,9 @@ int __wrap_openat(int dir, const char *name, int how, ...) {
   if ((makes || (may_write && refuses == EROFS)) && writes()) return -1; /* a full disk lets files be opened that are there */
   return __real_openat(dir, name, how, mode);
 }
-#define WRAPPED(kind, call, parameters, ...)      \
-  kind __real_##call parameters;                  \
-  kind __wrap_##call parameters {                 \
-    return writes() ? -1 : __real_##call(__VA_ARGS__); \
-  }
+#define WRAPPED(kind, call, parameters, ...) \
+  kind __real_##call parameters;             \
+  kind __wrap_##call parameters { return writes() ? -1 : __real_##call(__VA_ARGS__); }
 WRAPPED(ssize_t, write, (int file, const void *bytes, size_t len), file, bytes, len)
 WRAPPED(int, renameat, (int dir, const char *from, int to_dir, const char *to), dir, from, to_dir, to)
 WRAPPED(int, unlinkat, (int dir, const char *name, int how), dir, name, how)
@@ -77,8 +75,7 @@ static pdt_database *opened(const pdt_database_options *options) {
   return database;
 }
 static void closed(pdt_database *database) { is("close", PDT_OK, pdt_database_close(database)); }
-static const pdt_database_options quiet = {.size = sizeof quiet, .no_maintenance = true},
-                                  reads = {.size = sizeof reads, .read_only = true};
+static const pdt_database_options quiet = {.size = sizeof quiet, .no_maintenance = true}, reads = {.size = sizeof reads, .read_only = true};
 
 static const char csv[] = "id:int:key,qty:int\n1,0\n2,0\n3,0\n";
 static pdt_table *created(pdt_database *database, const char *name) {

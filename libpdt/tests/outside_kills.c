@@ -89,10 +89,10 @@ static void write_row(pdt_txn *txn) {
   bool there = false;
   is("rank", PDT_OK, pdt_rank(txn, &key, NULL, 0, &below, &there));
   switch (draw(4)) {
-  case 0: is("insert", there ? PDT_DUPLICATE : PDT_OK, pdt_insert(txn, (int64_t[]){key, number, 0, number}, NULL, 0)); break;
-  case 1: is("delete", there ? PDT_OK : PDT_MISSING, pdt_delete(txn, &key, NULL, 0)); break;
-  case 2: is("set", there ? PDT_OK : PDT_MISSING, pdt_set(txn, &key, NULL, 0, OTHER, number, NULL)); break;
-  default: set_number(txn, key, number);
+    case 0: is("insert", there ? PDT_DUPLICATE : PDT_OK, pdt_insert(txn, (int64_t[]){key, number, 0, number}, NULL, 0)); break;
+    case 1: is("delete", there ? PDT_OK : PDT_MISSING, pdt_delete(txn, &key, NULL, 0)); break;
+    case 2: is("set", there ? PDT_OK : PDT_MISSING, pdt_set(txn, &key, NULL, 0, OTHER, number, NULL)); break;
+    default: set_number(txn, key, number);
   }
 }
 static void commit(const engine *it) {

@@ -40,9 +40,7 @@ static size_t rank_of(const model *of, int64_t key) {
   }
   return from;
 }
-static int64_t number_of(const row *of, size_t column) {
-  return column == KEY ? of->key : column == FIRST ? of->first : of->second;
-}
+static int64_t number_of(const row *of, size_t column) { return column == KEY ? of->key : column == FIRST ? of->first : of->second; }
 
 /* What a transaction reads of a column, from a position on into a room, beside the array. */
 static void reads(const char *what, pdt_txn *txn, const model *due, size_t column, uint64_t from, size_t room) {

@@ -413,9 +413,12 @@ static void comes_between(const char *room) {
     int code;
     long long qty;
   } cases[] = {
-      {"fold", fold, PDT_SUPERSEDED, 2},          {"checkpoint", pdt_checkpoint, PDT_SUPERSEDED, 2},
-      {"another begin", begin, PDT_SUPERSEDED, 2}, {"bytes", checkpoint_to, PDT_SUPERSEDED, 2},
-      {"cut", cut, PDT_OK, 2},                     {"commit", commit, PDT_OK, 9},
+      {"fold", fold, PDT_SUPERSEDED, 2},
+      {"checkpoint", pdt_checkpoint, PDT_SUPERSEDED, 2},
+      {"another begin", begin, PDT_SUPERSEDED, 2},
+      {"bytes", checkpoint_to, PDT_SUPERSEDED, 2},
+      {"cut", cut, PDT_OK, 2},
+      {"commit", commit, PDT_OK, 9},
       {"prepare", prepare, PDT_OK, 2},
   };
   for (size_t i = 0; i < sizeof cases / sizeof *cases; i++) {

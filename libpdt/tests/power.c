@@ -32,14 +32,14 @@ static void is(const char *what, long long wanted, long long found) {
 enum kind { MAKE, MAKE_FOLDER, WRITE, CUT, SYNC, RENAME, REMOVE, ANSWER };
 typedef struct {
   enum kind kind;
-  int of;               /* the folder or file that it changes */
-  int object;           /* that it makes */
+  int of;                /* the folder or file that it changes */
+  int object;            /* that it makes */
   char name[48], to[48]; /* in the folder */
   uint8_t *bytes;
   size_t len;
   uint64_t number; /* that was answered */
   int made, declared;
-  bool lasts; /* whatever the sync: the database was closed */
+  bool lasts;   /* whatever the sync: the database was closed */
   bool is_lost; /* of bytes: their sync failed, and the system takes them for written */
 } event;
 
@@ -232,8 +232,8 @@ int __wrap_mkdir(const char *path, mode_t mode) {
 
 enum { COMMITS = 120, KEYS = 7 };
 
-static pdt_database_options options = {.size = sizeof options, .no_maintenance = true, .fold_entries = 6, .checkpoint_entries = 16,
-                                       .journal_bytes = 1500};
+static pdt_database_options options = {
+    .size = sizeof options, .no_maintenance = true, .fold_entries = 6, .checkpoint_entries = 16, .journal_bytes = 1500};
 static const char csv[] = "id:int:key,qty:int\n0,0\n1,0\n2,0\n3,0\n4,0\n5,0\n6,0\n";
 static const char *const names[] = {"left", "right"};
 static uint64_t number; /* of the last commit that was answered */

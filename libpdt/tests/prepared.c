@@ -113,10 +113,19 @@ static const struct {
   const char *name;
   void (*call)(void);
 } calls[] = {
-    {"a begin and an abort", begin_and_abort}, {"a begin at a pin", begin_at_a_pin}, {"pdt_size", size},       {"pdt_count", count},
-    {"pdt_wait", wait},                        {"a commit of nothing", commit_nothing}, {"an install of nothing", install_nothing},
-    {"a read of a checkpoint", read_checkpoint}, {"its write", write_checkpoint},     {"its end", end_checkpoint},
-    {"reads", read_rows},                      {"a stream", stream},                  {"calls that are refused", are_refused},
+    {"a begin and an abort", begin_and_abort},
+    {"a begin at a pin", begin_at_a_pin},
+    {"pdt_size", size},
+    {"pdt_count", count},
+    {"pdt_wait", wait},
+    {"a commit of nothing", commit_nothing},
+    {"an install of nothing", install_nothing},
+    {"a read of a checkpoint", read_checkpoint},
+    {"its write", write_checkpoint},
+    {"its end", end_checkpoint},
+    {"reads", read_rows},
+    {"a stream", stream},
+    {"calls that are refused", are_refused},
     {"the abort of another", abort_other},
 };
 

@@ -56,8 +56,7 @@ static void make(const char *folder) {
   is("open", PDT_OK, pdt_database_open(folder, &options, &database, NULL));
   is("create", PDT_OK, pdt_table_create_csv(database, "items", items_csv, sizeof items_csv - 1, NULL, NULL, &made));
   is("create", PDT_OK, pdt_table_create_csv(database, "gone", items_csv, sizeof items_csv - 1, NULL, NULL, &made));
-  is("create", PDT_OK,
-     pdt_table_create_csv_declared(database, "prices", prices_csv, sizeof prices_csv - 1, formats, 2, NULL, NULL, &made));
+  is("create", PDT_OK, pdt_table_create_csv_declared(database, "prices", prices_csv, sizeof prices_csv - 1, formats, 2, NULL, NULL, &made));
   int64_t one = 1, two = 2, three = 3, day = 19001, four[] = {4, 7, 1}, later[] = {19002, 7};
   pdt_txn *txn = begun(table_named(database, "items"));
   is("set", PDT_OK, pdt_set(txn, &one, NULL, 0, 1, 3, "uno"));

@@ -12,15 +12,15 @@
 
 static long answered;
 /* Makes a call, and once more where memory was refused. */
-#define CALL(call)                                                                   \
-  do {                                                                               \
-    int code_ = (call);                                                              \
-    if (code_ == PDT_NOMEM) answered++, code_ = (call);                              \
+#define CALL(call)                                                                           \
+  do {                                                                                       \
+    int code_ = (call);                                                                      \
+    if (code_ == PDT_NOMEM) answered++, code_ = (call);                                      \
     if (code_ != PDT_OK) return fprintf(stderr, "%s: %s\n", #call, pdt_code_text(code_)), 1; \
   } while (0)
 
-static const pdt_database_options options = {.size = sizeof options, .no_maintenance = true, .fold_entries = 3, .checkpoint_entries = 5,
-                                             .journal_bytes = 400};
+static const pdt_database_options options = {
+    .size = sizeof options, .no_maintenance = true, .fold_entries = 3, .checkpoint_entries = 5, .journal_bytes = 400};
 static const char csv[] = "id:int:key,qty:int,name:text\n1,0,a\n2,0,b\n3,0,c\n";
 enum { COMMITS = 9 };
 

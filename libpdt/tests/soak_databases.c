@@ -19,8 +19,8 @@ enum { ROWS = 20000, WRITERS = 2, SETS = 3, TENTHS = 10, MOST_KB = 4096, MOST_BY
 
 static pdt_database *database;
 static pdt_table *table;
-static atomic_long commits;  /* of all writers */
-static atomic_llong quickest; /* of the scans since it was asked for, in nanoseconds */
+static atomic_long commits;                              /* of all writers */
+static atomic_llong quickest;                            /* of the scans since it was asked for, in nanoseconds */
 static pthread_mutex_t lock = PTHREAD_MUTEX_INITIALIZER; /* of the next two */
 static tails begins, ends;                               /* of all writers, since they were printed */
 static atomic_bool stops, failed;

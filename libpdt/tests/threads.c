@@ -59,7 +59,8 @@ int main(void) {
   static const char csv[] = "id:int:key,sum:int\n0,0\n1,0\n2,0\n3,0\n4,0\n5,0\n6,0\n7,0\n8,0\n9,0\n";
   pthread_t threads[THREADS];
   if (pdt_open(csv, sizeof csv - 1, NULL, &table)) return 1;
-  for (size_t i = 0; i < THREADS; i++) if (pthread_create(&threads[i], NULL, adds, (void *)i)) return 1;
+  for (size_t i = 0; i < THREADS; i++)
+    if (pthread_create(&threads[i], NULL, adds, (void *)i)) return 1;
   int failed = 0;
   for (size_t i = 0; i < THREADS; i++) {
     void *what = NULL;

@@ -93,8 +93,7 @@ static void meet(void) {
     seen |= UINT64_C(1) << (clients[i].number - before.commits);
   }
   is("one of each row", ROWS, committed);
-  for (int i = ROWS; i < THREADS; i++)
-    is("one of two of a row", 1, (clients[i].code == PDT_OK) != (clients[i - ROWS].code == PDT_OK));
+  for (int i = ROWS; i < THREADS; i++) is("one of two of a row", 1, (clients[i].code == PDT_OK) != (clients[i - ROWS].code == PDT_OK));
   is("size", PDT_OK, pdt_size(table, &after));
   is("commits", (long long)before.commits + 1 + ROWS, (long long)after.commits);
   is("open", 0, (long long)after.open_transactions);

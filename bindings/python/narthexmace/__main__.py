@@ -202,10 +202,7 @@ def pictured(script: Script, stable: Sequence[Row]) -> List[Line]:
         laid("Read-PDT", (it for it in entries if it.layer == "read"), lambda it: stable[it.sid], key),
         laid("Write-PDT", (it for it in entries if it.layer == "write"), lambda it: image[it.rid], key),
     ]
-    own = [
-        laid(f"{spelled(client)}'s own", txn.layer(), partial(changed_row, txn), key)
-        for client, txn in script.open.items()
-    ]
+    own = [laid(f"{spelled(client)}'s own", txn.layer(), partial(changed_row, txn), key) for client, txn in script.open.items()]
     return layers_beside(table.columns, stable, layers, image, own)
 
 

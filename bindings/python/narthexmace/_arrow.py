@@ -237,9 +237,7 @@ def _done(code: int) -> None:
         raise NoMemory()  # the one thing that can be wrong with a schema of ours
 
 
-def _shown(
-    shaping: Shaping, columns: Optional[Sequence[str]], as_types: Mapping[str, str]
-) -> Dict[str, Tuple[int, Optional[str]]]:
+def _shown(shaping: Shaping, columns: Optional[Sequence[str]], as_types: Mapping[str, str]) -> Dict[str, Tuple[int, Optional[str]]]:
     """The place of each column that goes out, and the format that is asked for, by its name."""
     if isinstance(columns, str):
         raise TypeMismatch("columns are a list of names")

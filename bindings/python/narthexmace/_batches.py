@@ -32,10 +32,12 @@ class Texts(Sequence[str]):
         return len(self.offsets) - 1
 
     @overload
-    def __getitem__(self, index: int) -> str: ...
+    def __getitem__(self, index: int) -> str:
+        ...
 
     @overload
-    def __getitem__(self, index: slice) -> List[str]: ...
+    def __getitem__(self, index: slice) -> List[str]:
+        ...
 
     def __getitem__(self, index: Union[int, slice]) -> Union[str, List[str]]:
         if isinstance(index, slice):
@@ -169,10 +171,12 @@ class IntSpans(Sequence[memoryview]):
         return len(self._views)
 
     @overload
-    def __getitem__(self, index: int) -> memoryview: ...
+    def __getitem__(self, index: int) -> memoryview:
+        ...
 
     @overload
-    def __getitem__(self, index: slice) -> List[memoryview]: ...
+    def __getitem__(self, index: slice) -> List[memoryview]:
+        ...
 
     def __getitem__(self, index: Union[int, slice]) -> Any:
         return self._views[index]

@@ -82,9 +82,7 @@ def is_time(value: object) -> bool:
 def number_of(value: object) -> int:
     """A value as a cell of an int column. A float is none, and neither is a boolean, or a date or time of numpy."""
     if is_time(value):
-        raise TypeMismatch(
-            f"{value!r} stands where an int should: a column of dates or times is declared, as {DECLARED}"
-        )
+        raise TypeMismatch(f"{value!r} stands where an int should: a column of dates or times is declared, as {DECLARED}")
     if is_boolean(value):
         raise TypeMismatch(f"{value!r} stands where an int should")
     try:

@@ -539,16 +539,12 @@ class Database(Single):
         try:
             self._handle.close()
         except OutcomeUnknown:
-            raise OutcomeUnknown(
-                f"it is closed, and its last commits are there or not: {self._folder!r}", None, self._folder
-            )
+            raise OutcomeUnknown(f"it is closed, and its last commits are there or not: {self._folder!r}", None, self._folder)
 
     def __enter__(self) -> "Database":
         return self
 
-    def __exit__(
-        self, kind: Optional[Type[BaseException]], error: Optional[BaseException], trace: Optional[TracebackType]
-    ) -> None:
+    def __exit__(self, kind: Optional[Type[BaseException]], error: Optional[BaseException], trace: Optional[TracebackType]) -> None:
         """Closes it; at an exception it is closed with the last of its transactions and pins."""
         if kind is None:
             self.close()

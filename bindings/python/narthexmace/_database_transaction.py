@@ -123,9 +123,7 @@ class DatabaseSnapshot(Single):
     def __enter__(self: Self) -> Self:
         return self
 
-    def __exit__(
-        self, kind: Optional[Type[BaseException]], error: Optional[BaseException], trace: Optional[TracebackType]
-    ) -> None:
+    def __exit__(self, kind: Optional[Type[BaseException]], error: Optional[BaseException], trace: Optional[TracebackType]) -> None:
         self.abort()
 
     def __repr__(self) -> str:
@@ -212,9 +210,7 @@ class DatabaseTransaction(DatabaseSnapshot):
         check_commit(self._handle.commit(number), number.value)
         return number.value
 
-    def __exit__(
-        self, kind: Optional[Type[BaseException]], error: Optional[BaseException], trace: Optional[TracebackType]
-    ) -> None:
+    def __exit__(self, kind: Optional[Type[BaseException]], error: Optional[BaseException], trace: Optional[TracebackType]) -> None:
         if not self.is_open:
             return
         if kind is not None:

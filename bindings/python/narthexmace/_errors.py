@@ -380,9 +380,7 @@ _KINDS: Tuple[Type[Error], ...] = (
     ReadOnlyDatabase,
 )
 _BY_CODE: Dict[int, Type[Error]] = {kind.code: kind for kind in _KINDS}
-_OF_FILES: Dict[int, Type[_OfFiles]] = {
-    kind.code: kind for kind in (FileFailed, Exists, Locked, OutcomeUnknown, WritesFailed)
-}
+_OF_FILES: Dict[int, Type[_OfFiles]] = {kind.code: kind for kind in (FileFailed, Exists, Locked, OutcomeUnknown, WritesFailed)}
 _OF_DATABASES: Dict[int, Type[_OfDatabase]] = {kind.code: kind for kind in (Corrupt, Incomplete, Mismatch, NewerFormat)}
 #: Those of files that have one reason, whatever C was told last.
 _REASONS = {Exists.code: errno.EEXIST, Locked.code: errno.EWOULDBLOCK}

@@ -75,9 +75,7 @@ def _over_text(calls: Calls, text: bytes, formats: Formats, options: Options, ro
     check_text(calls.text(formats, text, len(text), byref(options), byref(fault), byref(room)), fault)
 
 
-def _over_stream(
-    calls: Calls, stream: StreamIn, key: Optional[KeyNames], options: Options, room: c_void_p
-) -> None:
+def _over_stream(calls: Calls, stream: StreamIn, key: Optional[KeyNames], options: Options, room: c_void_p) -> None:
     names, fault = [key] if isinstance(key, str) else list(key or ()), new_fault()
     for name in names:
         if "\0" in name:

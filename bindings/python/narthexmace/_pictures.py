@@ -73,8 +73,7 @@ def beside(blocks: Sequence[Block]) -> List[Line]:
     """Blocks of equally many lines beside each other."""
     widths = [max(map(length_of, block)) + GAP for block in blocks]
     return [
-        [piece for part, width in zip(parts, widths) for piece in (*part, Piece(" " * (width - length_of(part))))]
-        for parts in zip(*blocks)
+        [piece for part, width in zip(parts, widths) for piece in (*part, Piece(" " * (width - length_of(part))))] for parts in zip(*blocks)
     ]
 
 
@@ -95,8 +94,7 @@ def table_block(columns: Sequence[Column], rows: Sequence[Optional[Row]]) -> Blo
     widths = [max(len(line[place]) for line in cells) for place in range(len(columns))]
     right = [column.type == INT for column in columns]
     lines = [
-        "  ".join(it.rjust(width) if at_right else it.ljust(width) for it, width, at_right in zip(line, widths, right))
-        for line in cells
+        "  ".join(it.rjust(width) if at_right else it.ljust(width) for it, width, at_right in zip(line, widths, right)) for line in cells
     ]
     return [[Piece(lines[0], BOLD)], *([Piece(line)] for line in lines[1:])]
 

@@ -32,9 +32,7 @@ _GONE = "the worker that had the range is gone, and the version with it: ask for
 _ENDS = {INT: (LEAST, MOST), TEXT: ("", "\U0010ffff" * 1024)}
 
 
-def frame_of(
-    ranges: Sequence[Range], layout: Layout, vector: Sequence[int], names: Optional[Sequence[str]]
-) -> "DataFrame":
+def frame_of(ranges: Sequence[Range], layout: Layout, vector: Sequence[int], names: Optional[Sequence[str]]) -> "DataFrame":
     """A dataframe with a part for each range at its version, which the range's owner reads when it is computed."""
     types = {it.name: dtype_of(it.type, format_) for it, format_ in zip(layout.columns, layout.formats)}
     for name in names or ():
@@ -58,9 +56,7 @@ def frame_of(
 
 
 @dask.delayed(pure=True)  # type: ignore[misc]
-def _part(
-    key: str, address: str, actor: str, version: int, types: Dict[str, str], index: Optional[str]
-) -> pandas.DataFrame:
+def _part(key: str, address: str, actor: str, version: int, types: Dict[str, str], index: Optional[str]) -> pandas.DataFrame:
     """The rows of a range at a version: read where it is, or, where another worker has the task, fetched from there."""
     owner = owner_here(key)
     if owner is not None:

@@ -84,9 +84,7 @@ def shown(cells: Sequence[Cell], kinds: Kinds) -> Row:
     return tuple(cell if kind is None else kind.value(cast(int, cell)) for cell, kind in zip(cells, kinds))
 
 
-_CELLS: Dict[str, Callable[[Any], Cell]] = {
-    INT: number_of, TEXT: lambda text: bytes_of(text).decode(), BOOL: boolean_of
-}
+_CELLS: Dict[str, Callable[[Any], Cell]] = {INT: number_of, TEXT: lambda text: bytes_of(text).decode(), BOOL: boolean_of}
 
 
 def _cell(value: Any, column: Column, kind: Optional[Declared]) -> Any:

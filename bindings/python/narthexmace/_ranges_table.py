@@ -128,9 +128,7 @@ def create(
     return Ranges(coordinator, layout, path)
 
 
-def connect(
-    folder: Path, *, client: Optional[Client] = None, seconds: float = 10.0, opening: float = 60.0
-) -> "Ranges":
+def connect(folder: Path, *, client: Optional[Client] = None, seconds: float = 10.0, opening: float = 60.0) -> "Ranges":
     """Open a table in ranges, with this process as its coordinator: ``with narthexmace.dask.connect(..) as table:``.
 
     A worker opens each range, and waits for the lock of an owner that is dying. Decided commits that aren't installed
@@ -315,9 +313,7 @@ class Ranges(Single):
         vector = self._vector_at(at)
         return self._all("map", {place: (version, function, given) for place, version in enumerate(vector)})
 
-    def frame(
-        self, columns: Optional[Sequence[str]] = None, *, at: Union["RangesPin", Vector, None] = None
-    ) -> "DataFrame":
+    def frame(self, columns: Optional[Sequence[str]] = None, *, at: Union["RangesPin", Vector, None] = None) -> "DataFrame":
         """Return the table as a DataFrame of Dask, with a partition for each range, read when it is computed.
 
         All partitions are of one vector. It has to be there when the frame is computed: a pin keeps it. A key of one
@@ -381,9 +377,7 @@ class Ranges(Single):
     def __enter__(self) -> "Ranges":
         return self
 
-    def __exit__(
-        self, kind: Optional[Type[BaseException]], error: Optional[BaseException], trace: Optional[TracebackType]
-    ) -> None:
+    def __exit__(self, kind: Optional[Type[BaseException]], error: Optional[BaseException], trace: Optional[TracebackType]) -> None:
         self.close()
 
     def __repr__(self) -> str:
@@ -462,7 +456,5 @@ class RangesPin(Single):
     def __enter__(self) -> "RangesPin":
         return self
 
-    def __exit__(
-        self, kind: Optional[Type[BaseException]], error: Optional[BaseException], trace: Optional[TracebackType]
-    ) -> None:
+    def __exit__(self, kind: Optional[Type[BaseException]], error: Optional[BaseException], trace: Optional[TracebackType]) -> None:
         self.close()

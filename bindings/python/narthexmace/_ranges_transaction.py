@@ -215,9 +215,7 @@ class RangesTransaction(Single):
     def __enter__(self) -> "RangesTransaction":
         return self
 
-    def __exit__(
-        self, kind: Optional[Type[BaseException]], error: Optional[BaseException], trace: Optional[TracebackType]
-    ) -> None:
+    def __exit__(self, kind: Optional[Type[BaseException]], error: Optional[BaseException], trace: Optional[TracebackType]) -> None:
         if kind is not None or not self._open:
             self.abort()
         else:

@@ -94,9 +94,7 @@ class Snapshot(Single):
         self._handle.may_end_alone()
         return self
 
-    def __exit__(
-        self, kind: Optional[Type[BaseException]], error: Optional[BaseException], trace: Optional[TracebackType]
-    ) -> None:
+    def __exit__(self, kind: Optional[Type[BaseException]], error: Optional[BaseException], trace: Optional[TracebackType]) -> None:
         self.abort()
 
     # ---- reads of rows
@@ -206,10 +204,12 @@ class Snapshot(Single):
         return rows.value
 
     @overload
-    def __getitem__(self, position: int) -> Row: ...
+    def __getitem__(self, position: int) -> Row:
+        ...
 
     @overload
-    def __getitem__(self, position: slice) -> List[Row]: ...
+    def __getitem__(self, position: slice) -> List[Row]:
+        ...
 
     def __getitem__(self, position: Union[int, slice]) -> Union[Row, List[Row]]:
         """Return the row at a position, or the rows of a slice.
@@ -351,10 +351,12 @@ class Snapshot(Single):
         return Batch(first, count, cells, {it: self._shaping.declared[place] for it, place in columns.items()})
 
     @overload
-    def int_spans(self, column: str, start: int = 0, stop: Optional[int] = None) -> IntSpans: ...
+    def int_spans(self, column: str, start: int = 0, stop: Optional[int] = None) -> IntSpans:
+        ...
 
     @overload
-    def int_spans(self, column: Names, start: int = 0, stop: Optional[int] = None) -> List[Tuple[memoryview, ...]]: ...
+    def int_spans(self, column: Names, start: int = 0, stop: Optional[int] = None) -> List[Tuple[memoryview, ...]]:
+        ...
 
     def int_spans(self, column: Union[str, Names], start: int = 0, stop: Optional[int] = None) -> Any:
         """Return the int64 values of a column between two positions without a copy, as read-only views.

@@ -182,9 +182,7 @@ def open(
     return Table(handle)._with_declared(types)
 
 
-def recover(
-    folder: Path, *, recent: int = MAX_RECENT, row_limit: int = MAX_ROWS, conflicts: str = "column"
-) -> "Table":
+def recover(folder: Path, *, recent: int = MAX_RECENT, row_limit: int = MAX_ROWS, conflicts: str = "column") -> "Table":
     """Open a table over a checkpoint in a folder, which ``Table.checkpoint`` wrote.
 
     The files are read whole and not changed. Later commits are in memory until a checkpoint writes them into another
@@ -722,9 +720,7 @@ class Table(Single):
     def __enter__(self) -> "Table":
         return self
 
-    def __exit__(
-        self, kind: Optional[Type[BaseException]], error: Optional[BaseException], trace: Optional[TracebackType]
-    ) -> None:
+    def __exit__(self, kind: Optional[Type[BaseException]], error: Optional[BaseException], trace: Optional[TracebackType]) -> None:
         """Closes the table; at an exception it is closed with the last of its transactions and pins.
 
         A table of a database stays open.

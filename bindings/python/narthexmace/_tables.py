@@ -21,7 +21,8 @@ KeyNames = Union[str, Sequence[str]]
 class HasStream(Protocol):
     """What hands out a stream of Arrow's."""
 
-    def __arrow_c_stream__(self, requested_schema: Any = None) -> Any: ...
+    def __arrow_c_stream__(self, requested_schema: Any = None) -> Any:
+        ...
 
 
 #: Rows that are applied at once.
@@ -73,14 +74,11 @@ def _check_listed(name: str, cells: object) -> None:
         raise TypeMismatch(f"column {name!r} is a {type(cells).__name__}: a column is a list or an array of cells")
     if hasattr(cells, "filled") and hasattr(cells, "mask"):  # numpy's masked arrays, whose memory has all cells
         raise TypeMismatch(
-            f"column {name!r} is a masked array: filled() makes an array of it, and a list may have None where types "
-            "declare it, as '?l'"
+            f"column {name!r} is a masked array: filled() makes an array of it, and a list may have None where types " "declare it, as '?l'"
         )
 
 
-def named_columns(
-    columns: Mapping[str, Any], key: Optional[KeyNames], types: Optional[Mapping[str, str]]
-) -> List[Named]:
+def named_columns(columns: Mapping[str, Any], key: Optional[KeyNames], types: Optional[Mapping[str, str]]) -> List[Named]:
     """The columns, those of the key first, in the order in which the key names them."""
     names, types = [key] if isinstance(key, str) else list(key or ()), types or {}
     for name in (*names, *types):
@@ -104,9 +102,7 @@ def named_columns(
         cells = array_of(columns[name]) or _listed(columns[name])
         type_ = types[name] if name in types else _type_of(name, cells)
         if type_ not in _WRITERS:
-            raise TypeMismatch(
-                f"column {name!r} has the type {type_!r}: there are int, text and bool, and formats, as {DECLARED}"
-            )
+            raise TypeMismatch(f"column {name!r} has the type {type_!r}: there are int, text and bool, and formats, as {DECLARED}")
         if isinstance(cells, memoryview) and type_of_array(cells) != type_:
             cells = cells.tolist()
         listed.append(Named(name, type_, cells, name in names))

@@ -83,9 +83,7 @@ class Transaction(Snapshot):
         check_commit(code, number.value)
         return number.value
 
-    def __exit__(
-        self, kind: Optional[Type[BaseException]], error: Optional[BaseException], trace: Optional[TracebackType]
-    ) -> None:
+    def __exit__(self, kind: Optional[Type[BaseException]], error: Optional[BaseException], trace: Optional[TracebackType]) -> None:
         if not self.is_open:
             return
         if kind is not None:

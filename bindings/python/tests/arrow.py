@@ -303,9 +303,7 @@ class Producer:
     def _array(self, length: int, offset: int, buffers: Sequence[Optional[bytes]]) -> Array:
         rooms = [None if buffer is None else self._keep(create_string_buffer(buffer, max(len(buffer), 1))) for buffer in buffers]
         at = self._keep((c_void_p * len(rooms))(*(None if room is None else ctypes.addressof(room) for room in rooms)))
-        return self._keep(
-            Array(length=length, offset=offset, n_buffers=len(rooms), buffers=at, release=self._part_ends[1])
-        )
+        return self._keep(Array(length=length, offset=offset, n_buffers=len(rooms), buffers=at, release=self._part_ends[1]))
 
     def _column(self, column: Column, cells: Sequence[Any], null: Optional[int]) -> Array:
         whole, own = self.offsets

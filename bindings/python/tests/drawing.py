@@ -18,7 +18,7 @@ try:
 except ImportError:
     pandas = None
 
-LETTERS = 'abzé€𐍈 ,;"\'\n\r\0'
+LETTERS = "abzé€𐍈 ,;\"'\n\r\0"
 Cell = Any
 Row = Tuple[Cell, ...]
 Pair = Tuple[Any, Any]

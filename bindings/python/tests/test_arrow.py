@@ -29,7 +29,7 @@ SPANS = {
     "ttn": (0, 86_400 * 10**9), "tDm": (LEAST, MOST), "d:19,4": (LEAST, MOST),
 }  # fmt: skip
 FORMATS = {"int": list(SPANS), "text": ["u", "U", "vu"], "bool": ["b"]}
-LETTERS = "abzé€𐍈 ,\"\n\0"
+LETTERS = 'abzé€𐍈 ,"\n\0'
 
 
 class Drawn:
@@ -207,16 +207,16 @@ class Formats(unittest.TestCase):
             self.assertEqual(arrow.consumed(scan).fields, [("id", format_, 0)])
             self.assertEqual(arrow.rows_of(scan), [(LEAST,), (-1,), (0,), (1,), (MOST,)])
         for format_ in ("i", "tdD", "tts", "ttm", "d:10,1"):
-            self.assertEqual(arrow.rows_of(self.table.arrow(["d"], as_types={"d": format_}))[2:], [(20_000,), (2**31 - 1,), (-(2**31),)])
+            self.assertEqual(
+                arrow.rows_of(self.table.arrow(["d"], as_types={"d": format_}))[2:], [(20_000,), (2**31 - 1,), (-(2**31),)]
+            )
             with self.assertRaises(arrow.WritesFailed) as caught:
                 arrow.rows_of(self.table.arrow(["id"], as_types={"id": format_}))
             self.assertIn("row 0, column id: -9223372036854775808 goes out as no " + format_, str(caught.exception))
         nullable = self.table.arrow(["id"], as_types={"id": "?l"})
         self.assertEqual(arrow.consumed(nullable).fields, [("id", "l", 2)])
         self.assertEqual(arrow.rows_of(nullable), [(None,), (-1,), (0,), (1,), (MOST,)])
-        self.assertEqual(
-            arrow.rows_of(self.table.arrow(["t"], as_types={"t": "u"})), [("",), ("é",), ("x",), ("y" * 13,), ("z",)]
-        )
+        self.assertEqual(arrow.rows_of(self.table.arrow(["t"], as_types={"t": "u"})), [("",), ("é",), ("x",), ("y" * 13,), ("z",)])
 
     def test_what_is_no_format(self) -> None:
         for columns in ({"id": "tdX"}, {"id": "u"}, {"t": "l"}, {"t": "?U"}, {"id": "d:39,2"}, {"id": "tsx:"}, {"id": "L"}, {"nope": "l"}):
@@ -251,9 +251,7 @@ class Formats(unittest.TestCase):
             with table.begin() as txn:
                 txn.upsert_many(arrow.Producer(columns, [[(3, 1.0, 2.0, 5, 6, 7)]]))
                 columns[3].format = "tdm"
-                with self.assertRaisesRegex(
-                    narthexmace.TypeMismatch, r"column day is declared as \?tdD, and comes in as tdm"
-                ):
+                with self.assertRaisesRegex(narthexmace.TypeMismatch, r"column day is declared as \?tdD, and comes in as tdm"):
                     txn.upsert_many(arrow.Producer(columns, [rows]))
             self.assertEqual(arrow.rows_of(table)[2], (3, 1.0, 2.0, 5, 6, 7))
             for column, format_ in (("id", "?l"), ("x", "u"), ("nope", "g")):
@@ -453,9 +451,7 @@ class Refusals(unittest.TestCase):
     def test_refusals_say_where(self) -> None:
         key, number = arrow.Column("id", "l"), arrow.Column("n", "L")
         rows = [(1, 1), (2, 2), (3, 2**63)]
-        self.refused(
-            narthexmace.TypeMismatch, [key, number], rows, 2, 1, "column n has a number above 9,223,372,036,854,775,807"
-        )
+        self.refused(narthexmace.TypeMismatch, [key, number], rows, 2, 1, "column n has a number above 9,223,372,036,854,775,807")
         self.refused(narthexmace.Duplicate, [key], [(1,), (3,), (1,)], 2, 0, "the key is that of an earlier row")
         self.refused(narthexmace.DeviceFailed, [key], [(1,), (2,), (3,)], 2, 0, "made to fail", fails_at=1)
         self.refused(narthexmace.TypeMismatch, [key, arrow.Column("t", "u")], [(1, "a"), (2, "b"), (3, "x" * 4097)], 2, 1, "4,096")

@@ -166,9 +166,7 @@ class Lending(Case):
 
     def test_nobody_writes_through_a_piece(self) -> None:
         # a run that lies in the stable table, and numbers that came by value
-        for spans in (
-            self.txn.int_spans("qty", 5001, 5090), self.txn.int_spans("qty", 100, 102), self.txn.int_spans("id")
-        ):
+        for spans in (self.txn.int_spans("qty", 5001, 5090), self.txn.int_spans("qty", 100, 102), self.txn.int_spans("id")):
             for span in spans:
                 self.assertTrue(span.readonly)
                 for view in (span, span[:1], memoryview(span), span.cast("B")):
@@ -422,7 +420,7 @@ class Tables(unittest.TestCase):
         self.assertEqual(self.rows_of({"t": texts}, key="t"), [(text,) for text, _ in due])
 
     def test_names_and_the_order_of_the_key(self) -> None:
-        columns = {"a, \"b\"": [1, 2], "\ufeffk": ["y", "x"], "z\n": [True, False]}
+        columns = {'a, "b"': [1, 2], "\ufeffk": ["y", "x"], "z\n": [True, False]}
         with narthexmace.open(columns, key=["z\n", "\ufeffk"]) as table, table.begin() as txn:
             due = (("z\n", "bool", True), ("\ufeffk", "text", True), ('a, "b"', "int", False))
             self.assertEqual(table.columns, due)
@@ -451,7 +449,7 @@ class Tables(unittest.TestCase):
         import tempfile
         from pathlib import Path
 
-        text = "id:int:key,t:text\n2,é\n1,\"a,b\"\n"
+        text = 'id:int:key,t:text\n2,é\n1,"a,b"\n'
         due = [(1, "a,b"), (2, "é")]
         with tempfile.TemporaryDirectory() as folder:
             path = Path(folder, "table.csv")

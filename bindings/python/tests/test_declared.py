@@ -70,9 +70,7 @@ class Declared(unittest.TestCase):
                         txn.insert((value, value))
                     self.assertEqual([bits(list(entry.values)) for entry in txn.layer()], [bits([value, value]) for value in values])
                 with table.read() as snapshot:
-                    self.assertEqual(
-                        [bits(list(row)) for row in snapshot[:]], [bits([value, value]) for value in values]
-                    )
+                    self.assertEqual([bits(list(row)) for row in snapshot[:]], [bits([value, value]) for value in values])
                     for place, value in enumerate(values):
                         self.assertEqual(snapshot.rank(value), (place, True))
                         self.assertEqual(bits(snapshot.get([value])), bits([value, value]))
@@ -99,9 +97,7 @@ class Declared(unittest.TestCase):
                     with self.subTest(format=format_, value=value):
                         self.assertRaises(narthexmace.TypeMismatch, txn.insert, (VALUES[format_][1], value))
                         self.assertRaises(narthexmace.TypeMismatch, txn.set, VALUES[format_][0], "v", value)
-                        self.assertRaises(
-                            narthexmace.TypeMismatch, txn.insert_many, {"k": [VALUES[format_][1]], "v": [value]}
-                        )
+                        self.assertRaises(narthexmace.TypeMismatch, txn.insert_many, {"k": [VALUES[format_][1]], "v": [value]})
                         self.assertRaises(narthexmace.TypeMismatch, txn.get, value)
                 self.assertEqual(len(txn), 1)
             table.close()

@@ -340,8 +340,18 @@ class Run(Calls):
         txn.abort()
         table.close()
         got += [self.refuses(narthexmace.Misuse, call) for call in (pin.read, lambda: len(snapshot))]
-        calls: List[Callable[[], Any]] = [table.begin, table.read, table.fold, table.trim, table.sizes, table.layers,
-                                          table.pin, table.counts, lambda: table.wait(0, 9), lambda: table.changes(0)]
+        calls: List[Callable[[], Any]] = [
+            table.begin,
+            table.read,
+            table.fold,
+            table.trim,
+            table.sizes,
+            table.layers,
+            table.pin,
+            table.counts,
+            lambda: table.wait(0, 9),
+            lambda: table.changes(0),
+        ]
         got += [self.refuses(narthexmace.Misuse, call) for call in [*calls, lambda: table.checkpoint("/")]]
         table.close()
         got.append(self.refuses(narthexmace.Misuse, lambda: narthexmace.recover("a\0b")))
@@ -414,9 +424,7 @@ class Run(Calls):
                     answers.append((self.table.sizes().commits, len(self.model.commits)))
                     self.told["folds"] += 1
                     with self.table.read() as snapshot, self.table.pin() as pin, pin.read() as pinned:
-                        answers.append(
-                            ((len(snapshot), len(pinned), pin.number), (*[len(self.model.rows)] * 2, newest))
-                        )
+                        answers.append(((len(snapshot), len(pinned), pin.number), (*[len(self.model.rows)] * 2, newest)))
             except BaseException as fault:
                 faults.append(fault)
 

@@ -140,9 +140,7 @@ class Writes(Case):
             with items.begin() as txn:
                 self.assertRaisesRegex(narthexmace.Duplicate, "of the key 1 in the table 'items' already", txn.insert, (1,))
             with db.begin() as dbtxn:
-                self.assertRaisesRegex(
-                    narthexmace.Missing, "no row of the key 2 in the table 'items'", dbtxn["items"].delete, 2
-                )
+                self.assertRaisesRegex(narthexmace.Missing, "no row of the key 2 in the table 'items'", dbtxn["items"].delete, 2)
 
     def test_refusals_name_the_way_in_for_other_values(self) -> None:
         """Floats, dates and NULL are declared: no advice is false."""
@@ -152,9 +150,7 @@ class Writes(Case):
             with self.assertRaises(narthexmace.TypeMismatch) as caught:
                 narthexmace.open(columns, key="id")
             self.assertIn("types declare", str(caught.exception))
-            self.assertRaisesRegex(
-                narthexmace.TypeMismatch, "'tdD' of dates", narthexmace.open, columns, key="id", types={"x": "float"}
-            )
+            self.assertRaisesRegex(narthexmace.TypeMismatch, "'tdD' of dates", narthexmace.open, columns, key="id", types={"x": "float"})
             with narthexmace.open(columns, key="id", types={"x": format_}) as table, table.read() as snapshot:
                 self.assertEqual([row[1] for row in snapshot], cells)
 
@@ -207,8 +203,8 @@ class Writes(Case):
         with self.table.begin() as txn:
             txn.insert(row)
             txn.set(10, "name", "")
-            txn.set(20, "name", "\0,\"\n")
-            self.assertEqual((txn.get(2**63 - 1), txn.get(10)[1], txn.get(20)[1]), (row, "", "\0,\"\n"))
+            txn.set(20, "name", '\0,"\n')
+            self.assertEqual((txn.get(2**63 - 1), txn.get(10)[1], txn.get(20)[1]), (row, "", '\0,"\n'))
         with self.table.begin() as txn:
             self.assertEqual((txn[-1], txn.get(7), txn.get(7, "none")), (row, None, "none"))
 
@@ -298,7 +294,6 @@ class Commits(Case):
                 other.delete(10)
             self.assertFalse(other.is_open)
         self.assertEqual((txn.commit(), self.table.sizes().open_transactions), (1, 0))
-
 
     def test_an_interrupt_in_a_commit(self) -> None:
         commit = _transaction.library.pdt_commit

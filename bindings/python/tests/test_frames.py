@@ -97,9 +97,7 @@ class Frames(unittest.TestCase):
             for wrong in (datetime(9999, 12, 31, tzinfo=zone), datetime(1, 1, 1, tzinfo=zone)):
                 values = [datetime(2026, 1, 1, tzinfo=zone), wrong]
                 with self.subTest(values=values), opened(format_, values) as table, table.read() as snapshot:
-                    self.assertRaisesRegex(
-                        narthexmace.TypeMismatch, "column 'v' has a time outside", snapshot.to_pandas
-                    )
+                    self.assertRaisesRegex(narthexmace.TypeMismatch, "column 'v' has a time outside", snapshot.to_pandas)
                     self.assertEqual(len(snapshot.to_pandas(["k"])), 2)
 
     def test_a_frame_has_memory_of_its_own(self) -> None:

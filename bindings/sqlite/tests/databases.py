@@ -361,7 +361,10 @@ def what_no_schema_has_any_more_is_let_go(room):
     # by the connection's next table, or its next call of a function of pdt
     b = room.connect(path, tables=False)
     drop = f"SELECT pdt_drop('{folder}', 'items')"
-    for lets_go in (f"SELECT pdt_fold('x') FROM (SELECT 1) WHERE 0; {drop}", off.replace("TABLE items", "TABLE temp.x").replace("'items'", "'x'")):
+    for lets_go in (
+        f"SELECT pdt_fold('x') FROM (SELECT 1) WHERE 0; {drop}",
+        off.replace("TABLE items", "TABLE temp.x").replace("'items'", "'x'"),
+    ):
         shows(b, "SELECT count(*) FROM items", *a.run("SELECT count(*) FROM items"))
         kept.append(a.prepare("SELECT id FROM items"))
         done(b, "DROP TABLE items")

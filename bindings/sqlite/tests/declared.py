@@ -327,7 +327,19 @@ REALS = ["0.1", "-0.1", "9e999", "-9e999", "5e-324", "-5e-324", "2.2250738585072
 DATES = ["0000-01-01", "0001-01-01", "1582-10-10", "1969-12-31", "1970-01-01", "2000-02-29", "2024-02-29", "2024-03-01", "9999-12-31"]
 TIMES = ["00:00:00", "00:00:00.000001", "01:02:03.500000", "23:59:59", "23:59:59.999999"]
 ODD = ["2024", "2024-02", "2024-02-29 ", "2024-02-29T", "2024-02-29 00:00:00.5", "2024-02-30", "x", "", "1", "9999-12-31 23:59:60", "~"]
-KINDS = ["range of a key", "order of a key", "list", "failed", "wrong value", "BEGIN", "COMMIT", "ROLLBACK", "SAVEPOINT", "ROLLBACK TO", "reopened"]
+KINDS = [
+    "range of a key",
+    "order of a key",
+    "list",
+    "failed",
+    "wrong value",
+    "BEGIN",
+    "COMMIT",
+    "ROLLBACK",
+    "SAVEPOINT",
+    "ROLLBACK TO",
+    "reopened",
+]
 
 
 class DeclaredDrawn(Drawn):

@@ -5,10 +5,10 @@
 
 struct pdt_open_checkpoint {
   pdt_table *table;
-  pdti_handle version;   /* the newest one when it began */
-  uint64_t commits; /* the number of its table */
-  pdti_handle stable;     /* made by the first write */
-  uint64_t rebuilt; /* that of the table when it began */
+  pdti_handle version; /* the newest one when it began */
+  uint64_t commits;    /* the number of its table */
+  pdti_handle stable;  /* made by the first write */
+  uint64_t rebuilt;    /* that of the table when it began */
   bool is_written, is_installed;
 };
 

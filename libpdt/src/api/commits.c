@@ -13,9 +13,8 @@ struct pdti_commit {
 
 static void wait_in(pdt_table *table, pdti_commit *commit) {
   commit->next = atomic_load_explicit(&table->waiting_commits, memory_order_relaxed);
-  while (!atomic_compare_exchange_weak_explicit(&table->waiting_commits, &commit->next, commit, memory_order_release,
-                                                memory_order_relaxed)) {
-  }
+  while (
+      !atomic_compare_exchange_weak_explicit(&table->waiting_commits, &commit->next, commit, memory_order_release, memory_order_relaxed)) {}
 }
 
 /* Takes those that wait, the first one first. */

@@ -248,8 +248,7 @@ pdt_code pdt_recover_from(const void *header, size_t len, const pdt_bytes *colum
   pdt_table *table = calloc(1, sizeof *table);
   if (!table) return PDT_NOMEM;
   uint32_t found = 0;
-  int code = (int)pdtr_recover(bytes_at(header, len), len, slices, count, asked.recent, asked.row_limit, asked.by_row, &found,
-                               &table->raw);
+  int code = (int)pdtr_recover(bytes_at(header, len), len, slices, count, asked.recent, asked.row_limit, asked.by_row, &found, &table->raw);
   if (code) {
     free(table);
     return code;

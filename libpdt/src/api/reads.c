@@ -25,8 +25,8 @@ pdt_code pdt_get(pdt_txn *txn, const int64_t *key, const void *texts, size_t byt
                  size_t *needed) {
   if (!txn || !key || (!texts && bytes) || !numbers || (!out && room)) return PDT_MISUSE;
   size_t count = 0;
-  int code = (int)pdtr_get(&txn->raw, key, txn->table->key, bytes_at(texts, bytes), bytes, numbers, txn->table->width,
-                           room_at(out, room), room, &count);
+  int code = (int)pdtr_get(&txn->raw, key, txn->table->key, bytes_at(texts, bytes), bytes, numbers, txn->table->width, room_at(out, room),
+                           room, &count);
   if (needed) *needed = count;
   return code;
 }
@@ -39,8 +39,7 @@ pdt_code pdt_row_at(pdt_txn *txn, uint64_t position, int64_t *numbers, void *out
   return code;
 }
 
-pdt_code pdt_cells(pdt_txn *txn, size_t column, uint64_t from, int64_t *numbers, size_t *count, void *out, size_t room,
-                   size_t *bytes) {
+pdt_code pdt_cells(pdt_txn *txn, size_t column, uint64_t from, int64_t *numbers, size_t *count, void *out, size_t room, size_t *bytes) {
   if (!txn || !count || (!numbers && *count) || (!out && room)) return PDT_MISUSE;
   size_t end = 0;
   *count = pdtr_cells(&txn->raw, column, from, *count ? numbers : pdti_no_numbers, *count, room_at(out, room), room, &end);

@@ -103,9 +103,7 @@ void pdti_leave(pdt_table *table) {
   pthread_mutex_unlock(&locks->lock);
 }
 
-bool pdti_is_entered(const pdt_table *table) {
-  return atomic_load_explicit(&table->locks->holder, memory_order_relaxed);
-}
+bool pdti_is_entered(const pdt_table *table) { return atomic_load_explicit(&table->locks->holder, memory_order_relaxed); }
 
 bool pdti_is_entered_here(const pdt_table *table) {
   return atomic_load_explicit(&table->locks->holder, memory_order_relaxed) == this_thread();

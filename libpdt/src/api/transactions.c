@@ -177,7 +177,7 @@ void pdti_end(pdt_txn *txn) {
 }
 
 void pdt_abort(pdt_txn *txn) {
-  if (!txn || txn->dbtxn) return; /* a database transaction's ends with it */
+  if (!txn || txn->dbtxn) return;                   /* a database transaction's ends with it */
   if (txn->is_prepared && pdt_give_up(txn)) return; /* another thread has it prepared, and goes on with it */
   pdti_end(txn);
 }

@@ -168,7 +168,7 @@ static int fill_column(pdti_scan *out, const pdti_shown *column, size_t rows, st
       .release = release_column,
       .private_data = own,
   };
-  int code = is_text                       ? fill_texts(out, column, rows, array)
+  int code = is_text                        ? fill_texts(out, column, rows, array)
              : column->as.kind == PDTI_BITS ? fill_bits(out, column, rows, array)
                                             : fill_numbers(out, column, rows, array);
   if (code) release_column(array);

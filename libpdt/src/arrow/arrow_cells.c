@@ -122,9 +122,9 @@ static int take_bits(pdti_gathering *all, size_t at, const void *cells, uint64_t
 /* The texts of an array: how they lie, and where. */
 typedef struct {
   const pdti_format *as;
-  const void *cells;            /* offsets, or views */
-  const uint8_t *bytes;         /* of texts with offsets: may be null where there are none */
-  const void *const *buffers;   /* of views: those that texts of more than 12 bytes lie in, and how long each is */
+  const void *cells;          /* offsets, or views */
+  const uint8_t *bytes;       /* of texts with offsets: may be null where there are none */
+  const void *const *buffers; /* of views: those that texts of more than 12 bytes lie in, and how long each is */
   const int64_t *sizes;
   uint64_t count;
 } pdti_texts;

@@ -50,8 +50,7 @@ static int take_name(pdti_gathering *all, size_t at, const char *name) {
   if (!len || len > PDT_MAX_NAME || strchr(name, ':') || !pdti_is_utf8((const uint8_t *)name, len))
     return pdti_tell(all->fault, PDT_BAD_TABLE, 0, at, "column %zu has no name of 1 to 64 bytes of UTF-8 without a colon", at);
   for (size_t before = 0; before < at; before++)
-    if (!strcmp(all->columns[before].name, name))
-      return pdti_tell(all->fault, PDT_BAD_TABLE, 0, at, "two columns have the name %s", name);
+    if (!strcmp(all->columns[before].name, name)) return pdti_tell(all->fault, PDT_BAD_TABLE, 0, at, "two columns have the name %s", name);
   memcpy(all->columns[at].name, name, len + 1);
   return PDT_OK;
 }
@@ -90,8 +89,8 @@ static int take_schema(pdti_gathering *all, const struct ArrowSchema *schema) {
 
 int pdti_gather_schema(pdti_gathering *all, struct ArrowArrayStream *stream) {
   struct ArrowSchema schema = {0};
-  if (!stream->get_schema || !stream->get_next) return pdti_tell(all->fault, PDT_TYPE_MISMATCH, 0, 0,
-                                                                 "the stream has no schema, or no batches");
+  if (!stream->get_schema || !stream->get_next)
+    return pdti_tell(all->fault, PDT_TYPE_MISMATCH, 0, 0, "the stream has no schema, or no batches");
   int why = stream->get_schema(stream, &schema);
   if (why) return tell_failure(all, stream, why);
   int code = take_schema(all, &schema);

@@ -10,18 +10,18 @@ typedef struct {
 } pdti_named;
 
 static const pdti_named of_one[] = {
-    {"c", {PDTI_NUMBERS, PDT_INT, 1, true, 0}},    {"C", {PDTI_NUMBERS, PDT_INT, 1, false, 0}},
-    {"s", {PDTI_NUMBERS, PDT_INT, 2, true, 0}},    {"S", {PDTI_NUMBERS, PDT_INT, 2, false, 0}},
-    {"i", {PDTI_NUMBERS, PDT_INT, 4, true, 0}},    {"I", {PDTI_NUMBERS, PDT_INT, 4, false, 0}},
-    {"l", {PDTI_NUMBERS, PDT_INT, 8, true, 0}},    {"L", {PDTI_NUMBERS, PDT_INT, 8, false, 0}},
-    {"f", {PDTI_DOUBLES, PDT_INT, 4, true, 0}},    {"g", {PDTI_DOUBLES, PDT_INT, 8, true, 0}},
-    {"tdD", {PDTI_NUMBERS, PDT_INT, 4, true, 0}},  {"tdm", {PDTI_NUMBERS, PDT_INT, 8, true, 0}},
-    {"tts", {PDTI_NUMBERS, PDT_INT, 4, true, 0}},  {"ttm", {PDTI_NUMBERS, PDT_INT, 4, true, 0}},
-    {"ttu", {PDTI_NUMBERS, PDT_INT, 8, true, 0}},  {"ttn", {PDTI_NUMBERS, PDT_INT, 8, true, 0}},
-    {"tDs", {PDTI_NUMBERS, PDT_INT, 8, true, 0}},  {"tDm", {PDTI_NUMBERS, PDT_INT, 8, true, 0}},
-    {"tDu", {PDTI_NUMBERS, PDT_INT, 8, true, 0}},  {"tDn", {PDTI_NUMBERS, PDT_INT, 8, true, 0}},
-    {"b", {PDTI_BITS, PDT_BOOL, 0, false, 0}},     {"u", {PDTI_TEXTS, PDT_TEXT, 4, false, 0}},
-    {"U", {PDTI_TEXTS, PDT_TEXT, 8, false, 0}},    {"vu", {PDTI_VIEWS, PDT_TEXT, 16, false, 0}},
+    {"c", {PDTI_NUMBERS, PDT_INT, 1, true, 0}},   {"C", {PDTI_NUMBERS, PDT_INT, 1, false, 0}},
+    {"s", {PDTI_NUMBERS, PDT_INT, 2, true, 0}},   {"S", {PDTI_NUMBERS, PDT_INT, 2, false, 0}},
+    {"i", {PDTI_NUMBERS, PDT_INT, 4, true, 0}},   {"I", {PDTI_NUMBERS, PDT_INT, 4, false, 0}},
+    {"l", {PDTI_NUMBERS, PDT_INT, 8, true, 0}},   {"L", {PDTI_NUMBERS, PDT_INT, 8, false, 0}},
+    {"f", {PDTI_DOUBLES, PDT_INT, 4, true, 0}},   {"g", {PDTI_DOUBLES, PDT_INT, 8, true, 0}},
+    {"tdD", {PDTI_NUMBERS, PDT_INT, 4, true, 0}}, {"tdm", {PDTI_NUMBERS, PDT_INT, 8, true, 0}},
+    {"tts", {PDTI_NUMBERS, PDT_INT, 4, true, 0}}, {"ttm", {PDTI_NUMBERS, PDT_INT, 4, true, 0}},
+    {"ttu", {PDTI_NUMBERS, PDT_INT, 8, true, 0}}, {"ttn", {PDTI_NUMBERS, PDT_INT, 8, true, 0}},
+    {"tDs", {PDTI_NUMBERS, PDT_INT, 8, true, 0}}, {"tDm", {PDTI_NUMBERS, PDT_INT, 8, true, 0}},
+    {"tDu", {PDTI_NUMBERS, PDT_INT, 8, true, 0}}, {"tDn", {PDTI_NUMBERS, PDT_INT, 8, true, 0}},
+    {"b", {PDTI_BITS, PDT_BOOL, 0, false, 0}},    {"u", {PDTI_TEXTS, PDT_TEXT, 4, false, 0}},
+    {"U", {PDTI_TEXTS, PDT_TEXT, 8, false, 0}},   {"vu", {PDTI_VIEWS, PDT_TEXT, 16, false, 0}},
 };
 
 /* A number of at most three digits, with a sign if it may have one; *text goes on after it. */

@@ -6,11 +6,11 @@ typedef struct {
   pdt_txn *txn;
   int what;
   pdt_arrow_fault *fault;
-  size_t width;                    /* how many columns of the table are passed: all, or those of the key */
-  size_t place[PDT_MAX_COLUMNS];   /* which of the columns that come in each of them is */
+  size_t width;                  /* how many columns of the table are passed: all, or those of the key */
+  size_t place[PDT_MAX_COLUMNS]; /* which of the columns that come in each of them is */
   const pdt_column *columns;
-  uint8_t *texts;                  /* those of a row, one after the other */
-  uint64_t before;                 /* how many rows came before those of the columns */
+  uint8_t *texts;  /* those of a row, one after the other */
+  uint64_t before; /* how many rows came before those of the columns */
 } pdti_applying;
 
 /* ---- columns */

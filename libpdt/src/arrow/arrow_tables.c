@@ -210,8 +210,8 @@ static int create_sorted(const pdti_home *where, pdti_making *make, pdt_place *p
 static int tell(const pdti_making *make, int code, pdt_place place) {
   pdt_arrow_fault *fault = make->all->fault;
   size_t at = make->order[place.column < make->all->count ? place.column : 0];
-  if (code == PDT_TYPE_MISMATCH) return pdti_tell(fault, code, place.row, at, "column %s has a text that is no UTF-8",
-                                                  make->all->columns[at].name);
+  if (code == PDT_TYPE_MISMATCH)
+    return pdti_tell(fault, code, place.row, at, "column %s has a text that is no UTF-8", make->all->columns[at].name);
   if (code == PDT_DUPLICATE) return pdti_tell(fault, code, place.row, at, "the key is that of an earlier row");
   if (code == PDT_OK || code == PDT_NOMEM || code == PDT_MISUSE) return code;
   return pdti_tell(fault, code, 0, 0, "%s", pdt_code_text(code));

@@ -9,8 +9,12 @@
 /* ---- options and reports */
 
 static int options_of(const pdt_database_options *from, pdt_database_options *options) {
-  *options = (pdt_database_options){.size = sizeof *options, .fold_entries = 1024, .checkpoint_entries = 10000,
-                                    .journal_bytes = 64 << 20, .kept_bytes = 256 << 20, .mode = 0666};
+  *options = (pdt_database_options){.size = sizeof *options,
+                                    .fold_entries = 1024,
+                                    .checkpoint_entries = 10000,
+                                    .journal_bytes = 64 << 20,
+                                    .kept_bytes = 256 << 20,
+                                    .mode = 0666};
   if (!from) return PDT_OK;
   pdt_database_options asked, *given = &asked;
   if (pdti_take_struct(given, sizeof *given, from, offsetof(pdt_database_options, kept_bytes))) return PDT_MISUSE;

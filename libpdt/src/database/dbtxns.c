@@ -136,8 +136,8 @@ struct pdt_dbtxn {
   pdt_database *database;
   uint64_t version_seen;
   size_t count;
-  pdti_part *parts;     /* in the order of the tables' numbers */
-  pdt_txn **txns;  /* room for those that change something */
+  pdti_part *parts; /* in the order of the tables' numbers */
+  pdt_txn **txns;   /* room for those that change something */
   pdti_turned *turned;
 };
 

@@ -150,8 +150,8 @@ pdt_code pdt_declare(pdt_table *table, size_t column, const char *format) {
 }
 
 /* Declares the columns of a table that is in no database yet, and puts it there; else it is freed. */
-static int create_declared(pdt_database *database, const char *name, const char *const *formats, size_t count,
-                           const pdt_options *options, pdt_table *table, pdt_table **out) {
+static int create_declared(pdt_database *database, const char *name, const char *const *formats, size_t count, const pdt_options *options,
+                           pdt_table *table, pdt_table **out) {
   for (size_t column = 0; column < count; column++) {
     if (!formats[column]) continue;
     if (!pdti_may_declare(table, column, formats[column])) {

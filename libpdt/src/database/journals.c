@@ -67,9 +67,7 @@ int pdti_may_commit(const pdt_database *database) {
 
 /* ---- what begins may see */
 
-bool pdti_hides(const pdt_database *database) {
-  return database->options.sync == PDT_SYNC_FULL && !database->options.early_reads;
-}
+bool pdti_hides(const pdt_database *database) { return database->options.sync == PDT_SYNC_FULL && !database->options.early_reads; }
 
 bool pdti_is_hidden(const pdt_table *table) {
   return table->database && pdti_hides(table->database) && table->newest > table->database->published;
@@ -127,9 +125,8 @@ static int make_heads(pdt_database *database, uint64_t durable) {
     pdti_unwritten head;
     memcpy(&head, frames->at + at, sizeof head);
     const uint8_t *payload = frames->at + at + FRAME_HEAD;
-    bool is_made = durable < head.number &&
-                   pdtr_frame_head(database->salt, head.number, durable, bytes_at(payload, head.len), head.len, frames->at + at,
-                                   FRAME_HEAD);
+    bool is_made = durable < head.number && pdtr_frame_head(database->salt, head.number, durable, bytes_at(payload, head.len), head.len,
+                                                            frames->at + at, FRAME_HEAD);
     if (!is_made) return PDT_IO;
     at += FRAME_HEAD + head.len;
   }

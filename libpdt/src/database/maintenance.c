@@ -74,7 +74,7 @@ static int name_image(pdt_database *database, pdti_member *entry, pdti_table_ima
   if (made->number < before.number) made->number = before.number;
   entry->image = *made;
   int code = pdti_write_manifest(database, made->number, NULL, &in_doubt); /* it is durable: an image is made of no other table */
-  if (code) entry->image = before; /* where either may be named both stay */
+  if (code) entry->image = before;                                         /* where either may be named both stay */
   if (!code) pdti_remove_image(database, entry->number, before.folder);
   if (code && !in_doubt) pdti_remove_image(database, entry->number, made->folder);
   return code;

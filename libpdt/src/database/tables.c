@@ -177,8 +177,7 @@ int pdti_may_create(pdt_database *database, const char *name, pdt_table **table)
   return is_name(name) ? PDT_OK : PDT_TYPE_MISMATCH;
 }
 
-int pdti_open_inside(const pdt_column *columns, size_t count, size_t key, const pdt_options *options, pdt_place *place,
-                     pdt_table **table) {
+int pdti_open_inside(const pdt_column *columns, size_t count, size_t key, const pdt_options *options, pdt_place *place, pdt_table **table) {
   for (size_t column = 0; columns && column < count; column++)
     if (columns[column].type & PDT_OUTSIDE) return PDT_MISUSE;
   return pdt_open_columns(columns, count, key, options, place, table);

@@ -35,8 +35,7 @@ static string last, room;
 static long refusals, refusals_told, refusals_borne; /* where allocations are refused */
 
 static void say(const char *f, ...) {
-  if (!traces)
-    return;
+  if (!traces) return;
   va_list a;
   va_start(a, f);
   fprintf(stderr, "  [%ld] ", step_no);
@@ -50,8 +49,7 @@ static void say(const char *f, ...) {
   abort();
 }
 static void is(const char *what, long long wanted, long long found) {
-  if (wanted != found)
-    fail(what, std::to_string(wanted), std::to_string(found));
+  if (wanted != found) fail(what, std::to_string(wanted), std::to_string(found));
 }
 static void drew(const char *name) {
   made++;
@@ -77,8 +75,7 @@ template <class F> static auto with_refusals(const char *name, F call) -> declty
   using T = decltype(call());
   bool arms = may_be_refused(name) && bits() % 12 == 0;
   long before = refused;
-  if (arms)
-    left = (long)(bits() % (bits() % 3 ? 4 : 40));
+  if (arms) left = (long)(bits() % (bits() % 3 ? 4 : 40));
   if constexpr (std::is_same_v<T, void>) {
     call();
     left = -1;
@@ -95,8 +92,7 @@ template <class F> static auto with_refusals(const char *name, F call) -> declty
         return call();
       }
     }
-    if (was)
-      refusals_borne++, say("%s: a refusal borne", name);
+    if (was) refusals_borne++, say("%s: a refusal borne", name);
     return got;
   }
 }
@@ -145,8 +141,7 @@ struct Schema {
 struct KeyLess {
   bool operator()(const Cells &a, const Cells &b) const {
     for (size_t i = 0; i < a.size() && i < b.size(); i++)
-      if (int c = cmp(a[i], b[i]))
-        return c < 0;
+      if (int c = cmp(a[i], b[i])) return c < 0;
     return false;
   }
 };
@@ -244,8 +239,7 @@ static Rows applied(const Schema &sc, const Rows &rows, const Effects &effects) 
   out.reserve(rows.size() + effects.size());
   size_t at = 0;
   for (auto &e : effects) {
-    while (at < rows.size() && key_less(rows[at]->c, e.first))
-      out.push_back(rows[at++]);
+    while (at < rows.size() && key_less(rows[at]->c, e.first)) out.push_back(rows[at++]);
     bool there = is_at(rows, at, e.first);
     switch (e.second.kind) {
       case INS:
@@ -265,16 +259,13 @@ static Rows applied(const Schema &sc, const Rows &rows, const Effects &effects) 
         is("model: a change fits", 1, there);
         R r = *rows[at++];
         for (size_t c = 0; c < sc.width; c++)
-          if (e.second.mask >> c & 1)
-            r.c[c] = r.real[c] = e.second.row->c[c];
-        if (r.sid >= 0)
-          r.changed |= e.second.mask;
+          if (e.second.mask >> c & 1) r.c[c] = r.real[c] = e.second.row->c[c];
+        if (r.sid >= 0) r.changed |= e.second.mask;
         out.push_back(keep(r));
       }
     }
   }
-  while (at < rows.size())
-    out.push_back(rows[at++]);
+  while (at < rows.size()) out.push_back(rows[at++]);
   return out;
 }
 /* Rows as stable ones. */
@@ -289,44 +280,34 @@ static shared_ptr<Rows> stable_of(const Rows &rows) {
   return out;
 }
 static bool clash(bool by_row, const Eff &a, const Eff &b) {
-  if (a.kind == INS || b.kind == INS)
-    return a.kind == b.kind;
-  if (a.kind == CHG && b.kind == CHG)
-    return by_row || (a.mask & b.mask);
+  if (a.kind == INS || b.kind == INS) return a.kind == b.kind;
+  if (a.kind == CHG && b.kind == CHG) return by_row || (a.mask & b.mask);
   return true;
 }
 static int entries_of(const Effects &eff) {
   int n = 0;
-  for (auto &e : eff)
-    n += e.second.kind == CHG ? __builtin_popcount(e.second.mask) : e.second.kind == REP ? 2 : 1;
+  for (auto &e : eff) n += e.second.kind == CHG ? __builtin_popcount(e.second.mask) : e.second.kind == REP ? 2 : 1;
   return n;
 }
 static int due(const Txn *t) {
   Store *s = t->s;
-  if (t->eff.empty())
-    return PDT_OK;
-  if (t->base->local < s->cut_at || (uint64_t)(s->newest->local - t->base->local) > s->recent)
-    return PDT_TOO_OLD;
+  if (t->eff.empty()) return PDT_OK;
+  if (t->base->local < s->cut_at || (uint64_t)(s->newest->local - t->base->local) > s->recent) return PDT_TOO_OLD;
   for (int64_t i = t->base->local; i < s->newest->local; i++) {
     const Effects &other = s->effects[(size_t)i];
     const Effects &small = other.size() < t->eff.size() ? other : t->eff, &large = other.size() < t->eff.size() ? t->eff : other;
     for (auto &e : small) {
       auto it = large.find(e.first);
-      if (it != large.end() && clash(s->by_row, e.second, it->second))
-        return PDT_CONFLICT;
+      if (it != large.end() && clash(s->by_row, e.second, it->second)) return PDT_CONFLICT;
     }
   }
   return applied(s->sc, s->newest->rows, t->eff).size() > s->limit ? PDT_FULL : PDT_OK;
 }
 static void count_code(Store *s, int code) {
-  if (code == PDT_OK)
-    s->commits++;
-  if (code == PDT_CONFLICT)
-    s->conflicts++;
-  if (code == PDT_TOO_OLD)
-    s->too_old++;
-  if (code == PDT_FULL)
-    s->full++;
+  if (code == PDT_OK) s->commits++;
+  if (code == PDT_CONFLICT) s->conflicts++;
+  if (code == PDT_TOO_OLD) s->too_old++;
+  if (code == PDT_FULL) s->full++;
 }
 /* The model does a commit. */
 static void install(Store *s, const Effects &eff, uint64_t number) {
@@ -339,8 +320,7 @@ static void install(Store *s, const Effects &eff, uint64_t number) {
   s->numbers.push_back(number);
   s->newest = v;
   s->past[v->local] = v;
-  if (s->past.size() > 24)
-    s->past.erase(s->past.begin());
+  if (s->past.size() > 24) s->past.erase(s->past.begin());
 }
 
 /* ---- values */
@@ -350,10 +330,8 @@ static string drawn_utf8(int most) {
   string t;
   int n = (int)below(most + 1);
   for (int i = 0; i < n; i++) {
-    if (one_in(40))
-      t.push_back('\0');
-    else
-      t += spans[below(12)];
+    if (one_in(40)) t.push_back('\0');
+    else t += spans[below(12)];
   }
   return t;
 }
@@ -373,19 +351,16 @@ static Cell drawn_cell(int type, bool in_key, int spread) {
 }
 static Cells drawn_key(const Schema &sc, int spread) {
   Cells k;
-  for (size_t c = 0; c < sc.key; c++)
-    k.push_back(drawn_cell(sc.type[c], true, spread));
+  for (size_t c = 0; c < sc.key; c++) k.push_back(drawn_cell(sc.type[c], true, spread));
   return k;
 }
 static Cells drawn_row(const Schema &sc, int spread) {
   Cells r = drawn_key(sc, spread);
-  for (size_t c = sc.key; c < sc.width; c++)
-    r.push_back(drawn_cell(sc.type[c], false, spread));
+  for (size_t c = sc.key; c < sc.width; c++) r.push_back(drawn_cell(sc.type[c], false, spread));
   return r;
 }
 static Cells some_key(const Txn *t, int spread) {
-  if (!t->rows.empty() && !one_in(3))
-    return key_of(t->s->sc, t->rows[(size_t)below((int64_t)t->rows.size())]->c);
+  if (!t->rows.empty() && !one_in(3)) return key_of(t->s->sc, t->rows[(size_t)below((int64_t)t->rows.size())]->c);
   if (!t->eff.empty() && one_in(3)) {
     auto it = t->eff.begin();
     std::advance(it, below((int64_t)t->eff.size()));

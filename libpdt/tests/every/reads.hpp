@@ -26,8 +26,7 @@ static void row_is(const Schema &sc, const char *what, const R *wanted, const in
 }
 static size_t bytes_of(const Schema &sc, const R *r) {
   size_t n = 0;
-  for (size_t c = 0; c < sc.width; c++)
-    n += r->c[c].t.size();
+  for (size_t c = 0; c < sc.width; c++) n += r->c[c].t.size();
   return n;
 }
 static void read_row(Txn *t) {
@@ -40,12 +39,10 @@ static void read_row(Txn *t) {
   if (by_key) {
     key = some_key(t, spread_of(t->s));
     at = rank_of(t->rows, key);
-    if (is_at(t->rows, at, key))
-      wanted = t->rows[at];
+    if (is_at(t->rows, at, key)) wanted = t->rows[at];
   } else {
     at = (size_t)below((int64_t)t->rows.size() + 2);
-    if (at < t->rows.size())
-      wanted = t->rows[at];
+    if (at < t->rows.size()) wanted = t->rows[at];
   }
   size_t want = wanted ? bytes_of(sc, wanted) : 0;
   size_t space = one_in(4) && want ? (size_t)below((int64_t)want) : want + (one_in(2) ? 0 : 7);
@@ -60,10 +57,8 @@ static void read_row(Txn *t) {
     code = D(pdt_row_at, t->h, at, numbers.data(), out, space, one_in(5) ? (needed = want, nullptr) : &needed);
   }
   answers("a row", !wanted ? PDT_MISSING : want > space ? PDT_TOO_SMALL : PDT_OK, code);
-  if (wanted)
-    is("how many bytes", (long long)want, (long long)needed);
-  if (code == PDT_OK)
-    row_is(sc, "a row's cells", wanted, numbers.data(), text.data(), want);
+  if (wanted) is("how many bytes", (long long)want, (long long)needed);
+  if (code == PDT_OK) row_is(sc, "a row's cells", wanted, numbers.data(), text.data(), want);
 }
 static void read_rank(Txn *t) {
   Cells key = some_key(t, spread_of(t->s));
@@ -102,8 +97,7 @@ static void read_cells(Txn *t, size_t c, size_t from, size_t most) {
           D(pdt_cells, t->h, c, from, most ? numbers.data() : nullptr, &count, space ? text.data() : nullptr, space, &bytes));
   size_t wanted = 0, used = 0;
   for (size_t i = from; i < t->rows.size() && wanted < most; i++, wanted++) {
-    if (used + t->rows[i]->c[c].t.size() > space)
-      break;
+    if (used + t->rows[i]->c[c].t.size() > space) break;
     used += t->rows[i]->c[c].t.size();
   }
   is("cells: how many", (long long)wanted, (long long)count);
@@ -113,8 +107,7 @@ static void read_cells(Txn *t, size_t c, size_t from, size_t most) {
     const Cell &x = t->rows[from + i]->c[c];
     if (is_text) {
       is("cells: a text's length", (long long)x.t.size(), numbers[i]);
-      if (memcmp(text.data() + at, x.t.data(), x.t.size()))
-        fail("cells: a text", x.t, string(text.data() + at, x.t.size()));
+      if (memcmp(text.data() + at, x.t.data(), x.t.size())) fail("cells: a text", x.t, string(text.data() + at, x.t.size()));
       at += x.t.size();
     } else {
       is("cells: a number", x.n, numbers[i]);
@@ -126,16 +119,14 @@ static void read_ints(Txn *t, size_t c, size_t from, size_t most) {
   size_t count = most;
   answers("ints", PDT_OK, D(pdt_ints, t->h, c, from, most ? numbers.data() : nullptr, &count));
   is("ints: how many", t->s->sc.type[c] == PDT_INT ? (long long)std::min(most, left_from(t, from)) : 0, (long long)count);
-  for (size_t i = 0; i < count; i++)
-    is("an int", t->rows[from + i]->c[c].n, numbers[i]);
+  for (size_t i = 0; i < count; i++) is("an int", t->rows[from + i]->c[c].n, numbers[i]);
 }
 static void read_bools(Txn *t, size_t c, size_t from, size_t most) {
   vector<uint8_t> booleans(most + 1, 9);
   size_t count = most;
   answers("bools", PDT_OK, D(pdt_bools, t->h, c, from, most ? booleans.data() : nullptr, &count));
   is("bools: how many", t->s->sc.type[c] == PDT_BOOL ? (long long)std::min(most, left_from(t, from)) : 0, (long long)count);
-  for (size_t i = 0; i < count; i++)
-    is("a bool", t->rows[from + i]->c[c].n, booleans[i]);
+  for (size_t i = 0; i < count; i++) is("a bool", t->rows[from + i]->c[c].n, booleans[i]);
   is("bools: past them", 9, booleans[count]);
 }
 static void read_texts(Txn *t, size_t c, size_t from, size_t most) {
@@ -147,12 +138,9 @@ static void read_texts(Txn *t, size_t c, size_t from, size_t most) {
   for (size_t i = 0; i < count; i++) {
     const string &x = t->rows[from + i]->c[c].t;
     is("a text's length", (long long)x.size(), lens[i]);
-    if (!texts[i])
-      fail("a text's address", "one", "null");
-    if (memcmp(texts[i], x.data(), x.size()))
-      fail("a text", x, string(texts[i], x.size()));
-    if (t->lent.size() < 60 && x.size())
-      t->lent.push_back({texts[i], x, true});
+    if (!texts[i]) fail("a text's address", "one", "null");
+    if (memcmp(texts[i], x.data(), x.size())) fail("a text", x, string(texts[i], x.size()));
+    if (t->lent.size() < 60 && x.size()) t->lent.push_back({texts[i], x, true});
   }
 }
 static void read_spans(Txn *t, size_t c, size_t from, size_t to, size_t most) {
@@ -171,8 +159,7 @@ static void read_spans(Txn *t, size_t c, size_t from, size_t to, size_t most) {
     is("a piece that is empty", 1, spans[i].count > 0);
     if (spans[i].at) {
       for (uint64_t k = 0; k < spans[i].count; k++, at++) {
-        if (at >= end)
-          fail("pieces past the end", std::to_string(end), std::to_string(at));
+        if (at >= end) fail("pieces past the end", std::to_string(end), std::to_string(at));
         is("a number of a piece", t->rows[at]->c[c].n, spans[i].at[k]);
       }
       if (t->lent.size() < 60)
@@ -180,16 +167,14 @@ static void read_spans(Txn *t, size_t c, size_t from, size_t to, size_t most) {
       notes["pieces lent"]++;
     } else {
       is("a number by value", 1, (long long)spans[i].count);
-      if (at >= end)
-        fail("pieces past the end", std::to_string(end), std::to_string(at));
+      if (at >= end) fail("pieces past the end", std::to_string(end), std::to_string(at));
       is("a number of a piece by value", t->rows[at]->c[c].n, spans[i].number);
       at++;
       notes["pieces by value"]++;
     }
   }
   is("rows of pieces", (long long)(at - from), (long long)rows);
-  if (count < most)
-    is("all rows came in pieces", (long long)(end > from ? end - from : 0), (long long)(at - from));
+  if (count < most) is("all rows came in pieces", (long long)(end > from ? end - from : 0), (long long)(at - from));
 }
 /* A number, boolean or text of one cell from the library. */
 static Cell cell_of(Txn *t, size_t c, size_t at) {
@@ -199,15 +184,12 @@ static Cell cell_of(Txn *t, size_t c, size_t at) {
   answers("a cell", PDT_OK, D(pdt_cells, t->h, c, at, &n, &count, text, sizeof text, &bytes));
   is("one cell", 1, (long long)count);
   Cell out;
-  if (t->s->sc.type[c] == PDT_TEXT)
-    out.t = string(text, bytes);
-  else
-    out.n = n;
+  if (t->s->sc.type[c] == PDT_TEXT) out.t = string(text, bytes);
+  else out.n = n;
   return out;
 }
 static void cell_is(const char *what, const Cell &wanted, const Cell &found) {
-  if (wanted != found)
-    fail(what, std::to_string(wanted.n) + "/" + wanted.t, std::to_string(found.n) + "/" + found.t);
+  if (wanted != found) fail(what, std::to_string(wanted.n) + "/" + wanted.t, std::to_string(found.n) + "/" + found.t);
 }
 static void read_row_runs(Txn *t, size_t from, size_t to, size_t most) {
   const Schema &sc = t->s->sc;
@@ -219,17 +201,14 @@ static void read_row_runs(Txn *t, size_t from, size_t to, size_t most) {
   for (size_t i = 0; i < count; i++) {
     const pdt_row_run &p = parts[i];
     is("a row run's position", (long long)at, (long long)p.position);
-    if (p.source != PDT_STABLE)
-      is("one row of a row run", 1, (long long)p.rows);
+    if (p.source != PDT_STABLE) is("one row of a row run", 1, (long long)p.rows);
     is("a row run of no rows", 1, p.rows > 0);
     if (i && p.source == PDT_STABLE && parts[i - 1].source == PDT_STABLE && parts[i - 1].sid + parts[i - 1].rows == p.sid)
       notes["row runs that could be longer"]++;
     for (uint64_t k = 0; k < p.rows; k++, at++) {
-      if (at >= end)
-        fail("row runs past the end", std::to_string(end), std::to_string(at));
+      if (at >= end) fail("row runs past the end", std::to_string(end), std::to_string(at));
       const R *r = t->rows[at];
-      if (!knows)
-        continue;
+      if (!knows) continue;
       int source = r->sid < 0 ? PDT_INSERTED : r->changed ? PDT_CHANGED : PDT_STABLE;
       is("a row run's source", source, p.source);
       is("a row run's sid", r->sid < 0 ? 0 : r->sid, (long long)(p.sid + k));
@@ -238,35 +217,29 @@ static void read_row_runs(Txn *t, size_t from, size_t to, size_t most) {
                                     : "rows of row runs: stable"]++;
     }
     size_t here = (size_t)p.position;
-    if (!knows || (p.source == PDT_STABLE && !one_in(4)))
-      continue;
+    if (!knows || (p.source == PDT_STABLE && !one_in(4))) continue;
     uint8_t changed[PDT_MAX_COLUMNS + 2];
     memset(changed, 5, sizeof changed);
     size_t columns = one_in(8) ? (size_t)below((int64_t)sc.width + 1) : sc.width;
     answers("changed", PDT_OK, D(pdt_changed, t->h, here, changed, columns));
     const R *r = t->rows[here];
-    for (size_t c = 0; c < columns; c++)
-      is("a changed column", r->sid < 0 ? 1 : r->changed >> c & 1, changed[c]);
+    for (size_t c = 0; c < columns; c++) is("a changed column", r->sid < 0 ? 1 : r->changed >> c & 1, changed[c]);
     is("changed past the columns", 5, changed[columns]);
     /* the true row, by the engine's columns */
     size_t c = (size_t)below((int64_t)sc.width);
-    if (c >= columns)
-      continue;
+    if (c >= columns) continue;
     Cell found = p.source != PDT_INSERTED && !changed[c] ? (*t->base->stable)[p.sid]->real[c] : cell_of(t, c, here);
     cell_is("a true cell", r->real[c], found);
-    if (sc.outside[c])
-      notes["cells outside read by row runs"]++;
+    if (sc.outside[c]) notes["cells outside read by row runs"]++;
   }
-  if (count < most)
-    is("all rows came in row runs", (long long)(end > from ? end - from : 0), (long long)(at - from));
+  if (count < most) is("all rows came in row runs", (long long)(end > from ? end - from : 0), (long long)(at - from));
 }
 static void read_arrow(Txn *t);
 static void read_something(Txn *t) {
   const Schema &sc = t->s->sc;
   size_t c = (size_t)below((int64_t)sc.width), from = drawn_from(t), most = drawn_count();
   size_t to = one_in(5) ? SIZE_MAX : from + (size_t)below(one_in(2) ? 40 : 3000);
-  if (one_in(15) && from)
-    to = (size_t)below((int64_t)from); /* before from: nothing is between */
+  if (one_in(15) && from) to = (size_t)below((int64_t)from); /* before from: nothing is between */
   switch (below(10)) {
     case 9: read_arrow(t); break;
     case 0: read_row(t); break;
@@ -293,14 +266,10 @@ static void read_all(Txn *t) {
   for (size_t c = 0; c < sc.width; c++) {
     size_t chunk = one_in(2) ? rows + 1 : (size_t)(100 + below(1500));
     for (size_t at = 0; at <= rows; at += chunk) {
-      if (sc.type[c] == PDT_INT)
-        read_ints(t, c, at, chunk), read_spans(t, c, at, at + chunk, chunk + 1);
-      if (sc.type[c] == PDT_BOOL)
-        read_bools(t, c, at, chunk);
-      if (sc.type[c] == PDT_TEXT)
-        read_texts(t, c, at, chunk);
-      if (one_in(3))
-        read_cells(t, c, at, chunk);
+      if (sc.type[c] == PDT_INT) read_ints(t, c, at, chunk), read_spans(t, c, at, at + chunk, chunk + 1);
+      if (sc.type[c] == PDT_BOOL) read_bools(t, c, at, chunk);
+      if (sc.type[c] == PDT_TEXT) read_texts(t, c, at, chunk);
+      if (one_in(3)) read_cells(t, c, at, chunk);
     }
   }
   read_row_runs(t, 0, SIZE_MAX, rows + 1);
@@ -319,23 +288,19 @@ static void layer_is(Store *s, const char *what, pdt_layer *layer, const Rows &l
   size_t pending_sid = 0;
   long ins = 0, del = 0;
   auto row_out = [&](const Cells &cells, const char *why) {
-    if (out >= upper.size())
-      fail(what, "no more rows", why);
-    for (size_t c = 0; c < sc.width; c++)
-      cell_is(what, upper[out]->c[c], cells[c]);
+    if (out >= upper.size()) fail(what, "no more rows", why);
+    for (size_t c = 0; c < sc.width; c++) cell_is(what, upper[out]->c[c], cells[c]);
     out++;
   };
   auto flush = [&]() {
-    if (!has_pending)
-      return;
+    if (!has_pending) return;
     row_out(pending.c, "a modified row");
     at = pending_sid + 1;
     has_pending = false;
   };
   auto up_to = [&](size_t sid) {
     while (at < sid) {
-      if (at >= lower.size())
-        fail(what, "a sid of the rows below", std::to_string(sid));
+      if (at >= lower.size()) fail(what, "a sid of the rows below", std::to_string(sid));
       row_out(lower[at]->c, "a row below");
       at++;
     }
@@ -349,8 +314,7 @@ static void layer_is(Store *s, const char *what, pdt_layer *layer, const Rows &l
       code = D(pdt_entry_at, layer, i, &e, numbers.data(), text.data(), text.size());
     }
     answers(what, PDT_OK, code);
-    if (i && e.sid < kept_at)
-      fail(what, "sids that ascend", std::to_string(e.sid));
+    if (i && e.sid < kept_at) fail(what, "sids that ascend", std::to_string(e.sid));
     kept_at = e.sid;
     vector<Cell> cells;
     size_t b = 0;
@@ -367,8 +331,7 @@ static void layer_is(Store *s, const char *what, pdt_layer *layer, const Rows &l
       cells.push_back(x);
     }
     is("an entry's bytes", (long long)b, (long long)e.bytes);
-    if (has_pending && (e.sid != pending_sid || e.kind != PDT_MODIFY))
-      flush();
+    if (has_pending && (e.sid != pending_sid || e.kind != PDT_MODIFY)) flush();
     if (e.kind == PDT_INSERT) {
       up_to(e.sid);
       is("the rid of an insert", (long long)e.sid + ins - del, (long long)e.rid);
@@ -376,11 +339,9 @@ static void layer_is(Store *s, const char *what, pdt_layer *layer, const Rows &l
       ins++;
     } else if (e.kind == PDT_DELETE) {
       up_to(e.sid);
-      if (e.sid >= lower.size())
-        fail(what, "a row below", "none");
+      if (e.sid >= lower.size()) fail(what, "a row below", "none");
       is("the rid of a delete", (long long)e.sid + ins - del, (long long)e.rid);
-      for (size_t c = 0; c < sc.key; c++)
-        cell_is("the key of a delete", lower[e.sid]->c[c], cells[c]);
+      for (size_t c = 0; c < sc.key; c++) cell_is("the key of a delete", lower[e.sid]->c[c], cells[c]);
       at = e.sid + 1;
       del++;
     } else {
@@ -388,8 +349,7 @@ static void layer_is(Store *s, const char *what, pdt_layer *layer, const Rows &l
       is("the rid of a modify", (long long)e.sid + ins - del, (long long)e.rid);
       if (!has_pending) {
         up_to(e.sid);
-        if (e.sid >= lower.size())
-          fail(what, "a row below", "none");
+        if (e.sid >= lower.size()) fail(what, "a row below", "none");
         pending = *lower[e.sid];
         pending_sid = e.sid;
         has_pending = true;
@@ -415,8 +375,7 @@ static void read_layers(Store *s) {
     is("open transactions", (long long)s->open_count(), (long long)sizes.open_transactions);
     is("read entries", (long long)sizes.read_entries, (long long)pdt_layer_size(read));
     is("write entries", (long long)sizes.write_entries, (long long)pdt_layer_size(write));
-    if (sizes.read_entries >= 256)
-      notes["layers with a Read-PDT of 256 or more"]++;
+    if (sizes.read_entries >= 256) notes["layers with a Read-PDT of 256 or more"]++;
   }
   if (s->knows_stable) {
     layer_is(s, "the Read-PDT", read, *s->folded->stable, s->folded->rows);
@@ -436,8 +395,7 @@ static void read_changes(Store *s) {
   int code = D(pdt_changes, s->h, number, &layer);
   answers("changes", wanted, code);
   if (code) {
-    if (layer)
-      fail("changes", "null", "a layer");
+    if (layer) fail("changes", "null", "a layer");
     return;
   }
   auto it = std::lower_bound(s->numbers.begin(), s->numbers.end(), number);
@@ -478,12 +436,10 @@ static void read_counts(Store *s) {
   is("full", (long long)s->full, (long long)c.full);
   is("pins", (long long)s->pins.size(), (long long)c.pins);
   uint64_t oldest = s->pins.empty() ? 0 : UINT64_MAX, entries = 0;
-  for (auto &p : s->pins)
-    oldest = std::min(oldest, p.v->number);
+  for (auto &p : s->pins) oldest = std::min(oldest, p.v->number);
   is("the oldest pin", (long long)oldest, (long long)c.oldest_pin);
   int64_t kept = kept_of(s);
-  for (int64_t i = 0; i < kept; i++)
-    entries += (uint64_t)entries_of(s->effects[(size_t)(s->newest->local - 1 - i)]);
+  for (int64_t i = 0; i < kept; i++) entries += (uint64_t)entries_of(s->effects[(size_t)(s->newest->local - 1 - i)]);
   is("kept", kept, (long long)c.kept);
   is("kept entries", (long long)entries, (long long)c.kept_entries);
   if (s->knows_stable) {
@@ -491,12 +447,10 @@ static void read_counts(Store *s) {
     is("checkpoints", (long long)s->checkpoints, (long long)c.checkpoints);
     is("superseded", (long long)s->superseded, (long long)c.superseded);
   }
-  if (c.packs)
-    notes["counts of a table that was packed"]++;
+  if (c.packs) notes["counts of a table that was packed"]++;
   notes["packs (most of one table)"] = std::max<long>(notes["packs (most of one table)"], (long)c.packs);
   uint64_t after = s->newest->number - (uint64_t)below(2), number = 0;
-  if (one_in(3))
-    after = s->newest->number + (uint64_t)below(4);
+  if (one_in(3)) after = s->newest->number + (uint64_t)below(4);
   answers("wait", after < s->newest->number ? PDT_OK : PDT_MISSING,
           D(pdt_wait, s->h, after, one_in(30) ? 1 : 0, one_in(4) ? (number = s->newest->number, nullptr) : &number));
   is("waited for", (long long)s->newest->number, (long long)number);
@@ -509,9 +463,7 @@ static void read_columns(Store *s) {
   const char *name = D(pdt_column_name, s->h, c);
   if (c < s->sc.width ? !name || s->sc.name[c] != name : name != nullptr)
     fail("a name", c < s->sc.width ? s->sc.name[c] : "null", name ? name : "null");
-  if (strcmp(D(pdt_version), PDT_VERSION))
-    fail("version", PDT_VERSION, pdt_version());
+  if (strcmp(D(pdt_version), PDT_VERSION)) fail("version", PDT_VERSION, pdt_version());
   int code = (int)below(40) - 5;
-  if (!D(pdt_code_text, code))
-    fail("a sentence", "one", "null");
+  if (!D(pdt_code_text, code)) fail("a sentence", "one", "null");
 }

@@ -16,23 +16,16 @@ static void bad_shape(Txn *t) { /* cells that don't fit */
   size_t c = (size_t)below((int64_t)sc.width), bytes = texts.size();
   int which = (int)below(5);
   bool makes = true;
-  if (which == 0)
-    texts += "x", bytes++; /* bytes left over */
-  else if (which == 1 && bytes)
-    bytes--;
-  else if (which == 2 && sc.type[c] == PDT_BOOL)
-    p.numbers[c] = one_in(2) ? 2 : -1;
-  else if (which == 3 && sc.type[c] == PDT_TEXT)
-    p.numbers[c] = one_in(3) ? -1 : one_in(2) ? INT64_MAX : p.numbers[c] + 1;
+  if (which == 0) texts += "x", bytes++; /* bytes left over */
+  else if (which == 1 && bytes) bytes--;
+  else if (which == 2 && sc.type[c] == PDT_BOOL) p.numbers[c] = one_in(2) ? 2 : -1;
+  else if (which == 3 && sc.type[c] == PDT_TEXT) p.numbers[c] = one_in(3) ? -1 : one_in(2) ? INT64_MAX : p.numbers[c] + 1;
   else if (which == 4 && sc.type[c] == PDT_TEXT && !row[c].t.empty()) {
     size_t at = 0;
-    for (size_t i = 0; i < c; i++)
-      at += row[i].t.size();
+    for (size_t i = 0; i < c; i++) at += row[i].t.size();
     texts[at] = '\xff';
-  } else
-    makes = false;
-  if (!makes)
-    return;
+  } else makes = false;
+  if (!makes) return;
   answers("a row that doesn't fit", PDT_TYPE_MISMATCH, D(pdt_insert, t->h, p.numbers.data(), texts.data(), bytes));
   if (which == 0) {
     Cells key = some_key(t, 50);
@@ -54,8 +47,7 @@ static void insert(Txn *t, const Cells &row) {
   Cells key = key_of(s->sc, row);
   size_t at = rank_of(t->rows, key);
   int wanted = is_at(t->rows, at, key) ? PDT_DUPLICATE : t->rows.size() >= s->limit ? PDT_FULL : PDT_OK;
-  if (answers("insert", wanted, D(pdt_insert, t->h, p.numbers.data(), p.at(), p.texts.size())))
-    return;
+  if (answers("insert", wanted, D(pdt_insert, t->h, p.numbers.data(), p.at(), p.texts.size()))) return;
   const R *r = keep(R{row, row, -1, all_of(s->sc)});
   t->rows.insert(t->rows.begin() + (long)at, r);
   auto it = t->eff.find(key);
@@ -67,14 +59,11 @@ static void erase(Txn *t, const Cells &key) {
   Passed p(s->sc, key);
   size_t at = rank_of(t->rows, key);
   bool there = is_at(t->rows, at, key);
-  if (answers("delete", there ? PDT_OK : PDT_MISSING, D(pdt_delete, t->h, p.numbers.data(), p.at(), p.texts.size())))
-    return;
+  if (answers("delete", there ? PDT_OK : PDT_MISSING, D(pdt_delete, t->h, p.numbers.data(), p.at(), p.texts.size()))) return;
   t->rows.erase(t->rows.begin() + (long)at);
   auto it = t->eff.find(key);
-  if (it != t->eff.end() && it->second.kind == INS)
-    t->eff.erase(it);
-  else
-    t->eff[key] = Eff{DEL, 0, nullptr};
+  if (it != t->eff.end() && it->second.kind == INS) t->eff.erase(it);
+  else t->eff[key] = Eff{DEL, 0, nullptr};
 }
 static void set(Txn *t, const Cells &key, size_t c, const Cell &v) {
   Store *s = t->s;
@@ -89,16 +78,12 @@ static void set(Txn *t, const Cells &key, size_t c, const Cell &v) {
     return;
   R r = *t->rows[at];
   r.c[c] = r.real[c] = v;
-  if (r.sid >= 0)
-    r.changed |= 1u << c;
+  if (r.sid >= 0) r.changed |= 1u << c;
   const R *kept = t->rows[at] = keep(r);
   auto it = t->eff.find(key);
-  if (it == t->eff.end())
-    t->eff[key] = Eff{CHG, 1u << c, kept};
-  else if (it->second.kind == CHG)
-    it->second = Eff{CHG, it->second.mask | 1u << c, kept};
-  else
-    it->second.row = kept;
+  if (it == t->eff.end()) t->eff[key] = Eff{CHG, 1u << c, kept};
+  else if (it->second.kind == CHG) it->second = Eff{CHG, it->second.mask | 1u << c, kept};
+  else it->second.row = kept;
 }
 static void write_something(Txn *t) {
   Store *s = t->s;
@@ -124,8 +109,7 @@ static void write_something(Txn *t) {
       } /* fall through */
     default: {
       size_t c = one_in(15) ? (size_t)below((int64_t)s->sc.width) : s->sc.key + (size_t)below((int64_t)(s->sc.width - s->sc.key));
-      if (c >= s->sc.width)
-        return;
+      if (c >= s->sc.width) return;
       Cell v = drawn_cell(s->sc.type[c], false, spread);
       set(t, some_key(t, spread), c, v);
     }
@@ -136,22 +120,18 @@ static void apply_rows(Txn *t);
 static void bulk(Txn *t) {
   int n = (int)(20 + below(one_in(4) ? is_big ? 5000 : 500 : 120));
   int way = (int)below(5);
-  if (way == 4)
-    return apply_rows(t);
+  if (way == 4) return apply_rows(t);
   Store *s = t->s;
   size_t from = (size_t)below((int64_t)t->rows.size() + 1);
   say("bulk %d of way %d", n, way);
   for (int i = 0; i < n; i++) {
-    if (way == 0)
-      write_something(t);
+    if (way == 0) write_something(t);
     else if (way == 1) { /* a run of sets */
-      if (t->rows.empty() || s->sc.width == s->sc.key)
-        return;
+      if (t->rows.empty() || s->sc.width == s->sc.key) return;
       size_t c = s->sc.key + (size_t)below((int64_t)(s->sc.width - s->sc.key));
       set(t, key_of(s->sc, t->rows[(from + (size_t)i) % t->rows.size()]->c), c, drawn_cell(s->sc.type[c], false, 50));
     } else if (way == 2) { /* a run of deletes */
-      if (t->rows.size() < 30)
-        return;
+      if (t->rows.size() < 30) return;
       erase(t, key_of(s->sc, t->rows[(from + (size_t)i) % t->rows.size()]->c));
     } else {
       insert(t, drawn_row(s->sc, spread_of(s)));
@@ -163,8 +143,7 @@ static void marks(Txn *t) {
   bool there = level < t->marks.size();
   switch (below(3)) {
     case 0:
-      if (t->marks.size() > 5)
-        return;
+      if (t->marks.size() > 5) return;
       lent_is(t);
       answers("mark", PDT_OK, D(pdt_savepoint, t->h, &found));
       is("a level", (long long)t->marks.size(), (long long)found);
@@ -173,12 +152,10 @@ static void marks(Txn *t) {
     case 1: {
       lent_is(t);
       answers("back", there ? PDT_OK : PDT_MISSING, D(pdt_rollback_to, t->h, level));
-      if (!there)
-        return;
+      if (!there) return;
       vector<Lent> stay;
       for (auto &l : t->lent)
-        if (!l.is_text)
-          stay.push_back(l);
+        if (!l.is_text) stay.push_back(l);
       t->lent = stay;
       lent_is(t); /* pieces may be read on */
       t->eff = t->marks[level].first;
@@ -189,8 +166,7 @@ static void marks(Txn *t) {
     default:
       lent_is(t);
       answers("release", there ? PDT_OK : PDT_MISSING, D(pdt_release, t->h, level));
-      if (there)
-        t->marks.resize(level);
+      if (there) t->marks.resize(level);
   }
 }
 
@@ -242,19 +218,16 @@ static void commit(Txn *t) {
   uint64_t number = 99999;
   bool idle = t->eff.empty();
   bool late = t->base->local < s->newest->local;
-  if (late && !idle)
-    notes[wanted == PDT_OK ? "late commits that went through" : "late commits refused"]++;
+  if (late && !idle) notes[wanted == PDT_OK ? "late commits that went through" : "late commits refused"]++;
   say("commit of %zu effects, wanted %d", t->eff.size(), wanted);
   answers("commit", wanted, D(pdt_commit, t->h, one_in(6) ? nullptr : &number));
-  if (!idle)
-    count_code(s, wanted);
+  if (!idle) count_code(s, wanted);
   if (wanted == PDT_OK && !idle) {
     uint64_t next = w->db ? ++w->number : s->newest->number + 1;
     install(s, t->eff, next);
   }
   uint64_t told = idle ? t->base->number : w->db ? w->number : s->newest->number;
-  if (number != 99999)
-    is("a commit's number", (long long)told, (long long)number);
+  if (number != 99999) is("a commit's number", (long long)told, (long long)number);
   forget(t);
 }
 /* While a commit is prepared. */
@@ -283,8 +256,7 @@ static void beside(Txn *t) {
         answers("another commit", PDT_MISUSE, D(pdt_commit, o->h, &number));
         break;
       }
-    if (w->db)
-      answers("maintenance", PDT_MISUSE, D(pdt_maintain, w->d));
+    if (w->db) answers("maintenance", PDT_MISUSE, D(pdt_maintain, w->d));
   }
   pdt_sizes sizes;
   answers("size", PDT_OK, D(pdt_size, s->h, &sizes));
@@ -306,8 +278,7 @@ static void beside(Txn *t) {
     s->begins++;
     D(pdt_abort, over);
   }
-  if (!s->txns.empty())
-    read_something(s->txns[(size_t)below((int64_t)s->txns.size())]);
+  if (!s->txns.empty()) read_something(s->txns[(size_t)below((int64_t)s->txns.size())]);
 }
 static void prepare(Txn *t) {
   Store *s = t->s;
@@ -324,8 +295,7 @@ static void prepare(Txn *t) {
   }
   is("a prepared one's number", (long long)(idle ? t->base->number : next), (long long)number);
   t->prepared = true;
-  if (one_in(2))
-    beside(t);
+  if (one_in(2)) beside(t);
   switch (below(4)) {
     case 0:
       answers("give up", PDT_OK, D(pdt_give_up, t->h));
@@ -342,8 +312,7 @@ static void prepare(Txn *t) {
       answers("install", PDT_OK, D(pdt_install, t->h));
       if (!idle) {
         count_code(s, PDT_OK);
-        if (w->db)
-          w->number = next;
+        if (w->db) w->number = next;
         install(s, t->eff, next);
       }
       forget(t);
@@ -392,8 +361,7 @@ static void restack(Store *s, V v) {
   V n = copy_of(s->newest);
   n->stable = c->stable;
   n->rows = c->rows;
-  for (int64_t i = v->local; i < s->newest->local; i++)
-    n->rows = applied(s->sc, n->rows, s->effects[(size_t)i]);
+  for (int64_t i = v->local; i < s->newest->local; i++) n->rows = applied(s->sc, n->rows, s->effects[(size_t)i]);
   s->newest = n;
   s->past[n->local] = n;
   s->folded = c;
@@ -402,8 +370,7 @@ static void restack(Store *s, V v) {
 }
 static string new_folder() {
   string f = room + "/f" + std::to_string(w->next_folder++);
-  if (mkdir(f.c_str(), 0777))
-    abort();
+  if (mkdir(f.c_str(), 0777)) abort();
   return f;
 }
 static int remove_one(const char *path, const struct stat *, int, struct FTW *) { return remove(path); }
@@ -438,17 +405,14 @@ struct Taken {
 };
 static int take(void *context, size_t column, const uint8_t *bytes, size_t len) {
   Taken *t = (Taken *)context;
-  if (t->left >= 0 && t->left-- == 0)
-    return 1;
+  if (t->left >= 0 && t->left-- == 0) return 1;
   t->at[column].append((const char *)bytes, len);
   if (t->calls) { /* it may make calls on this table */
     pdt_txn *txn;
     uint64_t rows;
-    if (D(pdt_begin, t->calls->h, &txn))
-      abort();
+    if (D(pdt_begin, t->calls->h, &txn)) abort();
     t->calls->begins++;
-    if (D(pdt_rows, txn, &rows))
-      abort();
+    if (D(pdt_rows, txn, &rows)) abort();
     is("rows in a callback", (long long)t->calls->newest->rows.size(), (long long)rows);
     D(pdt_abort, txn);
   }
@@ -456,41 +420,34 @@ static int take(void *context, size_t column, const uint8_t *bytes, size_t len) 
 }
 static bool is_rarely_stored;
 static void checkpoint(Store *s) { /* in one call */
-  if (is_rarely_stored && !one_in(15))
-    return;
+  if (is_rarely_stored && !one_in(15)) return;
   pdt_options o = some_options(s);
   pdt_table *other = nullptr;
   if (one_in(2)) {
     string f = new_folder();
-    if (one_in(4))
-      answers("a folder that isn't", PDT_IO, D(pdt_checkpoint, s->h, (f + "/none").c_str()));
-    if (one_in(9))
-      answers("no name", PDT_MISUSE, D(pdt_checkpoint, s->h, ""));
+    if (one_in(4)) answers("a folder that isn't", PDT_IO, D(pdt_checkpoint, s->h, (f + "/none").c_str()));
+    if (one_in(9)) answers("no name", PDT_MISUSE, D(pdt_checkpoint, s->h, ""));
     answers("checkpoint", PDT_OK, D(pdt_checkpoint, s->h, f.c_str()));
     restack(s, s->newest);
     s->rebuilt++;
-    if (one_in(4))
-      answers("checkpoint where one is", PDT_EXISTS, D(pdt_checkpoint, s->h, f.c_str()));
+    if (one_in(4)) answers("checkpoint where one is", PDT_EXISTS, D(pdt_checkpoint, s->h, f.c_str()));
     answers("recover", PDT_OK, D(pdt_recover, f.c_str(), one_in(3) ? nullptr : &o, &other));
     table_is("a checkpoint that was recovered", s, other, s->newest->rows);
     clear(f);
   } else {
     Taken t;
     t.left = one_in(3) ? below(4) : -1;
-    if (one_in(3))
-      t.calls = s;
+    if (one_in(3)) t.calls = s;
     size_t column = 12345;
     long fails = t.left;
     int code = D(pdt_checkpoint_to, s->h, take, &t, &column);
     bool failed = code == PDT_DEVICE_FAILED;
     answers("checkpoint to", fails >= 0 && t.left < 0 ? PDT_DEVICE_FAILED : PDT_OK, code);
-    if (failed)
-      return;
+    if (failed) return;
     restack(s, s->newest);
     s->rebuilt++;
     vector<pdt_bytes> parts;
-    for (size_t c = 0; c < s->sc.width; c++)
-      parts.push_back({t.at[c].data(), t.at[c].size()});
+    for (size_t c = 0; c < s->sc.width; c++) parts.push_back({t.at[c].data(), t.at[c].size()});
     string head = t.at[PDT_HEADER];
     uint32_t generation = 0;
     answers("recover from", PDT_OK, D(pdt_recover_from, head.data(), head.size(), parts.data(), parts.size(), &o, &generation, &other));
@@ -500,8 +457,7 @@ static void checkpoint(Store *s) { /* in one call */
   say("checkpoint in one call");
 }
 static void checkpoint_parts(Store *s) {
-  if (is_rarely_stored && s->snaps.empty() && !one_in(15))
-    return;
+  if (is_rarely_stored && s->snaps.empty() && !one_in(15)) return;
   if (s->snaps.empty() || (s->snaps.size() < 2 && one_in(4))) {
     Snap *p = new Snap{};
     uint64_t number = 0;
@@ -532,21 +488,18 @@ static void checkpoint_parts(Store *s) {
         }
         bool good = !p->installed && p->rebuilt == s->rebuilt;
         int code = D(pdt_checkpoint_install, p->h);
-        if (w->db && good && code == PDT_SUPERSEDED)
-          good = false; /* by maintenance */
+        if (w->db && good && code == PDT_SUPERSEDED) good = false; /* by maintenance */
         answers("install a checkpoint", p->installed ? PDT_MISUSE : good ? PDT_OK : PDT_SUPERSEDED, code);
         if (good) {
           notes[p->v->local == s->newest->local ? "installs of the newest table" : "installs under later commits"]++;
           restack(s, p->v);
           p->installed = true;
           say("install a checkpoint of %" PRIu64, p->v->number);
-        } else if (code == PDT_SUPERSEDED)
-          s->superseded++;
+        } else if (code == PDT_SUPERSEDED) s->superseded++;
         return;
       }
       string f = new_folder();
-      if (one_in(5))
-        answers("write nowhere", PDT_IO, D(pdt_checkpoint_write, p->h, (f + "/none").c_str()));
+      if (one_in(5)) answers("write nowhere", PDT_IO, D(pdt_checkpoint_write, p->h, (f + "/none").c_str()));
       answers("write", PDT_OK, D(pdt_checkpoint_write, p->h, f.c_str()));
       p->written = true;
       if (one_in(2)) {
@@ -558,8 +511,7 @@ static void checkpoint_parts(Store *s) {
       return;
     }
     case 2: {
-      if (!one_in(3))
-        return;
+      if (!one_in(3)) return;
       D(pdt_checkpoint_end, p->h);
       delete p;
       s->snaps.erase(s->snaps.begin() + (long)i);
