@@ -116,7 +116,7 @@ const char *pdt_version(void);
  * docs/ERRORS.md has these codes with their names in Rust, Python and SQLite, and with what to do.
  * @{ */
 
-/** What a call returns. A call's page lists the codes that it returns and their causes. */
+/** The code that a call returns. A call's page lists the codes that it returns and their causes. */
 typedef enum pdt_code {
   PDT_OK = 0,               /**< success */
   PDT_NOMEM = 1,            /**< out of memory; nothing changed */
@@ -1310,7 +1310,7 @@ pdt_code pdt_changed(pdt_txn *txn, uint64_t position, uint8_t *changed, size_t c
  */
 typedef struct pdt_layer pdt_layer;
 
-/** What an entry does. */
+/** The change that an entry makes. */
 enum pdt_kind {
   PDT_INSERT = 1, /**< inserts a row */
   PDT_DELETE = 2, /**< deletes a row */
@@ -1448,7 +1448,7 @@ pdt_code pdt_entry_at(pdt_layer *layer, size_t index, pdt_entry *entry, int64_t 
  * docs/DATABASES.md has its files, and what a crash leaves of them at each step.
  * @{ */
 
-/** What an acknowledged commit of a database survives. */
+/** The failures that an acknowledged commit of a database survives. */
 enum pdt_sync {
   PDT_SYNC_FULL = 0,   /**< a crash of the machine: a commit is acknowledged once it is on the device. Commits that wait at
                             the same time share a write and a sync (group commit) */
@@ -1477,7 +1477,7 @@ typedef struct pdt_database_options {
 /** The name of the table in a database that was made of a folder of the program `pdt`. */
 #define PDT_IMPORTED "table"
 
-/** What an opening found. Later versions may add members. */
+/** The report of an opening. Later versions may add members. */
 typedef struct pdt_report {
   size_t size;         /**< `sizeof(pdt_report)`, set by the caller, also of a later header */
   uint64_t commits;    /**< the number of the newest commit */

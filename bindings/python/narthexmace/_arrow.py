@@ -152,7 +152,7 @@ class ArrowScan(Single):
         if asked.start < 0 or (asked.stop is not None and asked.stop < 0):
             raise TypeMismatch("positions count from 0")
         self._batch = min(batch, LAST)
-        self.__arrow_c_schema__()  # which tells what is asked for and isn't there
+        self.__arrow_c_schema__()  # it raises if a requested column or type isn't there
 
     def __arrow_c_stream__(self, requested_schema: Any = None) -> Any:
         """Return an Arrow stream capsule.

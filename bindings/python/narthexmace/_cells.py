@@ -10,7 +10,7 @@ from ._declared import Declared, declared_as
 from ._errors import TypeMismatch
 from ._library import MAX_TEXT, library
 
-#: Of a column that is declared, also a float, a date, a datetime, a Decimal or None.
+#: In a declared column also a float, a date, a datetime, a Decimal or None.
 Cell = Union[int, str, bool, Any]
 Row = Tuple[Cell, ...]
 Key = Union[Cell, Sequence[Cell]]

@@ -22,7 +22,7 @@ _SYNCS = {"full": 0, "normal": 1, "off": 2}
 
 
 class Report(NamedTuple):
-    """What the opening of a database found.
+    """The report of a database's opening.
 
     Attributes
     ----------
@@ -221,7 +221,7 @@ class Database(Single):
 
     @property
     def report(self) -> Report:
-        """What the opening found."""
+        """The report of the opening."""
         return self._report
 
     # ---- tables

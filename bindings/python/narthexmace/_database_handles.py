@@ -32,7 +32,7 @@ class DatabaseHandle(Shared):
     def __init__(self, folder: Path) -> None:
         self.folder = folder
         self._process = os.getpid()
-        # those that somebody has: a drop takes their addresses away
+        # those with references: a drop takes their addresses away
         self._tables: Dict[bytes, "weakref.ref[TableHandle]"] = {}
         self._tables_lock = threading.RLock()
         super().__init__()
@@ -76,7 +76,7 @@ class DatabaseHandle(Shared):
         return code == 0
 
     def table(self, name: object) -> "TableHandle":
-        """The table of a name, the same one for as long as somebody has it. Missing where there is none."""
+        """The table of a name, the same object for as long as it has references. Missing if there is no such table."""
         encoded, room = name_of(name), c_void_p()
         with self._tables_lock, self as at:
             handle = None if encoded is None else self._had(encoded)
@@ -91,7 +91,7 @@ class DatabaseHandle(Shared):
             return handle
 
     def _had(self, encoded: bytes) -> Optional["TableHandle"]:
-        """The table of a name that somebody has."""
+        """The table of a name, if it has references."""
         kept = self._tables.get(encoded)
         return None if kept is None else kept()
 

@@ -25,7 +25,7 @@ class DatabaseSnapshot(Single):
 
     __slots__ = ("_handle", "_parts", "__weakref__")
 
-    #: What it hands out of a table.
+    #: The type that it returns for a table.
     _kind: Type[Snapshot] = Snapshot
 
     def __init__(self, handle: DatabaseTransactionHandle) -> None:

@@ -382,7 +382,7 @@ _KINDS: Tuple[Type[Error], ...] = (
 _BY_CODE: Dict[int, Type[Error]] = {kind.code: kind for kind in _KINDS}
 _OF_FILES: Dict[int, Type[_OfFiles]] = {kind.code: kind for kind in (FileFailed, Exists, Locked, OutcomeUnknown, WritesFailed)}
 _OF_DATABASES: Dict[int, Type[_OfDatabase]] = {kind.code: kind for kind in (Corrupt, Incomplete, Mismatch, NewerFormat)}
-#: Those of files that have one reason, whatever C was told last.
+#: The errno of errors that have one cause, whatever errno is in C.
 _REASONS = {Exists.code: errno.EEXIST, Locked.code: errno.EWOULDBLOCK}
 
 

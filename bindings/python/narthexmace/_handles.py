@@ -26,7 +26,7 @@ class Single:
         raise TypeError(f"a {type(self).__name__} can't be copied or pickled: it stands for memory of this process")
 
 
-#: What a list has of a call of C's that was begun, before it has its code.
+#: The entry in a list for a call of C that has begun, and has no code yet.
 _BEGUN = -1
 #: The code of a free that isn't tried, since a thread is in a call.
 _IN_CALL = -2
@@ -64,8 +64,8 @@ def _is_in_package(frame: Optional[FrameType]) -> bool:
     return False
 
 
-#: Addresses that nobody has any more, and that C doesn't free while a stream of Arrow's is open over them, of which
-#: Python isn't told; and C's calls that free them.
+#: Addresses without a handle that C doesn't free while a stream of Arrow's is open over them, and C's calls that free
+#: them. Python gets no notice of a stream's end.
 _left: List[Tuple[Callable[[c_void_p], int], c_void_p]] = []
 
 
@@ -88,12 +88,12 @@ class Shared(Single):
     its stack shows one, too. An interrupt may come between any two lines, and never between C's free and its note.
     """
 
-    #: What it is the address of, for people.
+    #: The kind of object that it is the address of, for messages.
     kind = ""
 
     def __init__(self) -> None:
         free_left()
-        #: What the end of a transaction or a pin calls: ``int``, which does nothing, unless this is ending.
+        #: The function that the end of a transaction or pin calls: ``int``, which does nothing, unless this is ending.
         self.unused: Callable[[], Any] = int
         self._lock = threading.RLock()  # for the call that frees it
         self._calls: Dict[int, int] = {}  # of each thread
@@ -101,7 +101,7 @@ class Shared(Single):
         self._opened: List["weakref.ref[Any]"] = []
         self._most = 64
         self._ending = False
-        #: What an opening fills: whoever interrupts the opening then, it is let go with this. It is made last.
+        #: The address that an opening fills. After an interrupt of the opening it is freed with this. It is made last.
         self.room = c_void_p()
 
     def __enter__(self) -> int:

@@ -14,14 +14,14 @@ PLACE = "NARTHEXMACE_LIBRARY"
 #: The environment variable by which the package is imported without a library, so that its documentation can be read.
 ABSENT = "NARTHEXMACE_WITHOUT_LIBRARY"
 
-#: What a number of a commit isn't.
+#: A number that no commit has.
 NO_NUMBER = 2**64 - 1
 MAX_NAME = 64
 MAX_TEXT = 4096
 MAX_RECENT = 65_536
 MAX_ROWS = 2_147_483_647
 
-# What a database is opened with where nothing else is said.
+# The defaults of a database's options.
 FOLD_ENTRIES = 1024
 CHECKPOINT_ENTRIES = 10_000
 JOURNAL_BYTES = 67_108_864
@@ -163,7 +163,7 @@ class DatabaseCountsOf(ctypes.Structure):
 
 
 # Each call's result, and its arguments. A pointer to what the call fills is a void pointer here, so that an array, a
-# part of one and a number by reference may all stand there.
+# part of one and a number by reference can all be passed.
 _CELLS = [c_void_p, c_char_p, c_size_t]  # numbers, texts, and how many bytes the texts have
 _CALLS = {
     "version": (c_char_p, []),

@@ -29,7 +29,7 @@ class Calls(NamedTuple):
     arrow: Callable[..., int]
 
 
-#: What each column is declared as, if it is. Empty where none is.
+#: The declared format of each column, or None. Empty where no column is declared.
 Formats = Sequence[Optional[str]]
 
 

@@ -76,7 +76,7 @@ class Range:
 
     def __init__(self, client: Client, folder: str, place: int, first: Optional[First] = None) -> None:
         self._client, self._folder, self.place = client, folder, place
-        #: What it is made of, until all ranges of its table are made.
+        #: The contents that it is made of, until all ranges of its table are made.
         self.first = first
         #: The worker's address, Dask's task and actor, and the key by which tasks of the worker find it.
         self.address, self.key = "", ""

@@ -34,7 +34,7 @@ class _Doubt(NamedTuple):
 
 
 class Coordinator:
-    """What orders the commits. Any threads of its process may use it: one commit goes on at a time."""
+    """Orders the commits. Any threads of its process may use it: one commit goes on at a time."""
 
     def __init__(
         self,

@@ -16,13 +16,13 @@ from ._ranges_log import write_whole
 NAME = "ranges.json"
 
 
-#: What the ints of a column stand for, where it is declared: of each column.
+#: The declaration of each column, or None where it has none.
 Kinds = Tuple[Optional[Declared], ...]
 
 
 @lru_cache
 def kinds_of(formats: Tuple[Optional[str], ...]) -> Kinds:
-    """What columns are declared as."""
+    """The declarations of columns with these formats."""
     return tuple(None if format_ is None else declared_as(format_) for format_ in formats)
 
 

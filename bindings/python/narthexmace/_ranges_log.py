@@ -13,10 +13,10 @@ from ._errors import Incomplete, Locked, Mismatch, Corrupt
 from ._ranges_errors import IN_DOUBT, NOT_COMMITTED, LogFailed
 
 NAME, LOCK = "decisions.log", "coordinator.lock"
-#: Above so many bytes the log is written anew, without what all ranges have.
+#: A log of more bytes is written anew, without the decisions that all ranges have.
 MOST_BYTES = 1 << 20
 
-#: What a transaction writes into one range, by keys: ["delete", key], ["insert", row], ["modify", key, column, cell].
+#: The writes of a transaction to one range, by keys: ["delete", key], ["insert", row], ["modify", key, column, cell].
 Effects = List[List[Any]]
 
 
@@ -121,7 +121,7 @@ class Log:
         steps.reached("written")
         try:
             os.fsync(self._file)
-        except OSError as why:  # nobody knows what the device has: the next opening does
+        except OSError as why:  # only the next opening can see what the device has
             raise LogFailed(f"the log of decisions can't be synced: {why}", IN_DOUBT) from why
         self.next, self.is_long = decision.number + 1, size + len(line) > MOST_BYTES
         self.failed = False

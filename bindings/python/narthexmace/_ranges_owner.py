@@ -23,9 +23,9 @@ from ._transaction import Transaction
 
 #: The tables of a range's database: its rows, and which transactions wrote them, each added by its own commit.
 ROWS, INSTALLED = "rows", "installed"
-#: Of how many of the last commits a range keeps the version, and the name of the transaction.
+#: A range keeps the versions of its last VERSIONS commits, and the names of the last NAMES transactions.
 VERSIONS, NAMES = 64, 4096
-#: What an owner serves: the epoch of its coordinator, and how often that had to reach a range anew.
+#: The term that an owner serves: the epoch of its coordinator, and how often that had to reach a range anew.
 Term = Tuple[int, int]
 
 
@@ -148,7 +148,7 @@ class Owner:
             raise Gone(f"range {self._place} serves another coordinator, or a later word of this one")
 
     def _decided(self, name: str) -> Effects:
-        """What a transaction writes, which is over then. Conflict, TooOld, Full, Gone."""
+        """The writes of a transaction, which this ends. Conflict, TooOld, Full, Gone."""
         txn = self._open.pop(name, None)
         if txn is None:
             raise Gone(f"range {self._place} has no transaction of the name {name!r} any more")
@@ -172,7 +172,7 @@ class Owner:
             if len(self._names) >= NAMES:
                 dbtxn[INSTALLED].delete(next(iter(self._names)))
             dbtxn.commit()
-        except (WritesFailed, OutcomeUnknown):  # the next owner tells what is there
+        except (WritesFailed, OutcomeUnknown):  # the next owner finds out what is there
             self.close()
             raise
         finally:

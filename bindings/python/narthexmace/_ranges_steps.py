@@ -3,7 +3,7 @@ from __future__ import annotations
 
 from typing import Callable, Optional
 
-#: What is called at each step, with its name and the range, or None at the coordinator.
+#: The function that is called at each step, with the step's name and the range, or None at the coordinator.
 hook: Optional[Callable[[str, Optional[int]], None]] = None
 
 

@@ -30,7 +30,7 @@ class RangesTransaction(Single):
 
     def __init__(self, ranges: "Ranges", coordinator: Coordinator, vector: Vector) -> None:
         self._ranges, self._coordinator, self._layout = ranges, coordinator, ranges._layout
-        #: What ``Ranges.outcome`` knows it by, and what it sees.
+        #: The name by which ``Ranges.outcome`` knows it, and the versions that it sees.
         self.name = coordinator.name()
         self.vector: Vector = vector
         self._begun: List[int] = []  # the ranges in which it has begun
@@ -162,7 +162,7 @@ class RangesTransaction(Single):
             self._wrote.append(place)
         try:
             return self._ranges._ask(place, "do", self.name, version, call, given).answer(self._ranges._deadline())
-        except RangesError:  # nobody knows whether the range has the write: it must not commit
+        except RangesError:  # the range may have the write or not: it must not commit
             self.abort()
             raise
 

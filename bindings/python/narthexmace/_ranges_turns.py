@@ -29,7 +29,7 @@ class _Turn:
 
     def __init__(self, call: Callable[[], Any]) -> None:
         self.call = call
-        #: What it answered, or what it raised.
+        #: Its result, or the exception that it raised.
         self.answer: "SimpleQueue[Tuple[Any, Optional[BaseException]]]" = SimpleQueue()
         self._taken = threading.Lock()
 
@@ -50,7 +50,7 @@ class Turns:
         threading.Thread(target=_go_on, args=(self._asked,), name="narthexmace commits", daemon=True).start()
 
     def do(self, call: Callable[[], Any], deadline: Deadline) -> Any:
-        """What a call answers or raises. TimedOut, where its turn doesn't come in time: it isn't made then."""
+        """The result of a call, made in its turn. TimedOut if the turn doesn't come in time: it isn't made then."""
         turn = _Turn(call)
         try:
             self._asked.put(turn)

@@ -14,7 +14,7 @@ from ._cells import BOOL, INT
 from ._errors import Error, check
 from ._library import IntSpan, library
 
-#: How many rows a block of the stable table has, whose texts lie one after the other.
+#: The rows of a block of the stable table, whose texts are adjacent in memory.
 BLOCK = 1024
 #: Up to how many runs of a block are copied run by run: where rows were changed there are more.
 FEW = 64

@@ -24,7 +24,7 @@ Self = TypeVar("Self", bound="Snapshot")
 Names = Union[List[str], Tuple[str, ...]]
 
 BATCH = 65_536
-#: What a transaction does, and a snapshot doesn't.
+#: The calls that a transaction has, and a snapshot hasn't.
 _WRITES = ("insert", "delete", "set", "insert_many", "upsert_many", "delete_many", "savepoint", "layer", "commit")
 
 

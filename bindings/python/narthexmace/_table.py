@@ -625,7 +625,7 @@ class Table(Single):
         """The number of the table that begins take. A commit whose number is above it isn't to be seen yet."""
         commits = c_uint64()
         with self._handle as at:
-            code = library.pdt_wait(at, 2**64 - 1, 0, byref(commits))  # which waits for nothing, and tells it
+            code = library.pdt_wait(at, 2**64 - 1, 0, byref(commits))  # it waits for nothing, and writes the number
         if code != Missing.code:
             check(code)
         return commits.value

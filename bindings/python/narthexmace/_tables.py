@@ -19,7 +19,7 @@ KeyNames = Union[str, Sequence[str]]
 
 
 class HasStream(Protocol):
-    """What hands out a stream of Arrow's."""
+    """An object that hands out a stream of Arrow's."""
 
     def __arrow_c_stream__(self, requested_schema: Any = None) -> Any:
         ...

@@ -16,7 +16,7 @@ from ._snapshot import Snapshot
 from ._tables import Many, columns_for
 
 
-#: What is done with each row: enum pdt_apply.
+#: The operation applied to each row: enum pdt_apply.
 _INSERT, _UPSERT, _DELETE = 1, 2, 3
 
 

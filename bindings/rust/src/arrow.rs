@@ -360,7 +360,7 @@ impl std::error::Error for ArrowRefusal {}
 
 fn answer(code: c_int, fault: &ffi::ArrowFault) -> Result<(), ArrowRefusal> {
     let Err(error) = done(code) else { return Ok(()) };
-    // SAFETY: the library ends the cause with a zero, of which there is one at the end from the beginning.
+    // SAFETY: the library ends the cause with a zero, and the room ends with one from the beginning.
     let cause = unsafe { CStr::from_ptr(fault.cause.as_ptr()) };
     let cause = owned(cause.to_str().unwrap_or_default()).unwrap_or_default();
     Err(ArrowRefusal { error, row: fault.place.row, column: fault.place.column, cause })

@@ -148,7 +148,7 @@ impl<'t> Ints<'t> {
             done(unsafe { ffi::pdt_int_spans(txn.raw(), column, at, to, room.as_mut_ptr(), &mut count, &mut rows) })?;
             assert!(rows > 0, "each number between two positions of a table is in a span");
             spans.try_reserve(count)?;
-            // SAFETY: the library has filled so many spans, and the transaction is borrowed as long as they are there.
+            // SAFETY: the library has filled as many spans, and the transaction is borrowed as long as they are there.
             spans.extend(room[..count].iter().map(|span| unsafe { IntSpan::lent(span) }));
             at += rows;
         }
@@ -157,7 +157,7 @@ impl<'t> Ints<'t> {
 }
 
 impl<'t> IntSpan<'t> {
-    /// What the library hands out of a transaction.
+    /// A span that the library has handed out of a transaction.
     ///
     /// # Safety
     /// `pdt_int_spans` has filled the span, and until `'t` ends its transaction makes no write and isn't over.

@@ -21,7 +21,7 @@ pub enum Change {
     Modify {
         /// The column of the cell.
         column: usize,
-        /// What it is set to.
+        /// The new value.
         cell: Cell,
     },
 }
@@ -33,7 +33,7 @@ pub struct Entry {
     pub sid: u64,
     /// The position of its row among the rows above the layer; for a delete, where the row would be.
     pub rid: u64,
-    /// What it does.
+    /// The change that it makes.
     pub change: Change,
 }
 

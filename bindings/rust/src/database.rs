@@ -132,7 +132,7 @@ impl Database {
             ffi::pdt_table_create_csv(self.as_raw(), passed.as_ptr(), text, bytes, &options, &mut fault, &mut raw)
         };
         if code == ffi::BAD_TABLE {
-            // SAFETY: at this code the library has told the fault.
+            // SAFETY: at this code the library has written the fault.
             return Err(OpenError::BadTable(unsafe { TableFault::told(&fault) }));
         }
         done(code)?;

@@ -43,7 +43,7 @@ pub enum Error {
     Misuse,
     /// A file can't be created, written, synced or read.
     Io {
-        /// What the system says, as [`io::Error::from_raw_os_error`] takes it.
+        /// The system's error number, as [`io::Error::from_raw_os_error`] takes it.
         errno: i32,
     },
     /// A file of a checkpoint, or a table of this name, exists already.
@@ -147,7 +147,7 @@ impl Error {
     }
 }
 
-/// What a call answered.
+/// The result of a call, by the code that it returned.
 pub(crate) fn done(code: c_int) -> Result<(), Error> {
     if code == ffi::OK { Ok(()) } else { Err(Error::of(code)) }
 }
@@ -179,7 +179,7 @@ pub struct TableFault {
     pub record: u64,
     /// The cell, from 0; 0 for the whole record.
     pub column: u64,
-    /// What is wrong, in English.
+    /// The cause, in English.
     pub cause: &'static str,
 }
 

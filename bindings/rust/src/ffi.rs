@@ -138,7 +138,7 @@ pub struct Bytes {
     pub len: usize,
 }
 
-/// What takes the bytes of a checkpoint.
+/// A function that takes the bytes of a checkpoint.
 pub type Write = unsafe extern "C" fn(*mut c_void, usize, *const u8, usize) -> c_int;
 
 /// The column of the header's bytes.

@@ -87,7 +87,7 @@ impl DatabaseOptions {
     }
 }
 
-/// What an opening found.
+/// The report of an opening.
 #[derive(Clone, Copy, Debug, PartialEq, Eq)]
 #[non_exhaustive]
 pub struct Report {
@@ -111,7 +111,7 @@ pub struct DatabaseError {
     pub commit: Option<u64>,
 }
 
-/// What the library is handed to fill.
+/// A report for the library to fill.
 pub(crate) fn unfilled() -> ffi::Report {
     let size = size_of::<ffi::Report>();
     ffi::Report { size, commits: 0, replayed: 0, torn_bytes: 0, fault: 0, file: [0; ffi::FILE_NAME] }

@@ -216,7 +216,7 @@ impl<E: Ending> Transaction<'_, E> {
     pub fn changed(&self, position: u64) -> Result<Vec<bool>, Error> {
         let mut bytes = [0u8; ffi::MAX_COLUMNS];
         let width = self.table().columns().len();
-        // SAFETY: the transaction is open, and a table has at most so many columns.
+        // SAFETY: the transaction is open, and a table has at most `MAX_COLUMNS` columns.
         done(unsafe { ffi::pdt_changed(self.raw(), position, bytes.as_mut_ptr(), width) })?;
         let mut changed = Vec::new();
         changed.try_reserve_exact(width)?;

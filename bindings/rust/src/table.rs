@@ -114,7 +114,7 @@ impl Table {
         // call.
         let code = unsafe { ffi::pdt_open_csv(csv.as_ptr().cast(), csv.len(), &options, &mut fault, &mut raw) };
         if code == ffi::BAD_TABLE {
-            // SAFETY: at this code the library has told the fault.
+            // SAFETY: at this code the library has written the fault.
             return Err(OpenError::BadTable(unsafe { TableFault::told(&fault) }));
         }
         done(code)?;
