@@ -2,14 +2,18 @@
 //! compared with the one that is due.
 //!
 //!     rt run            a few calls, whose answers are looked at; no time is told
-//!     rt run -- full    over 10,000 rows, by 1, 2 and 4 threads: the least time of seven turns
+//!     rt run -- full    over 10,000 rows, by 1, 2 and 4 threads: the least time of seven turns; and durable commits of 1, 16 and 32
+//!                       sessions over a journal whose sync takes a millisecond
 #![tactic(auto)]
 
 ghost use Rattle.std.specs.Prelude.{◌≡◌, []};
 
+mod durable_commits;
+mod slow_journal;
 mod tables;
 mod turns;
 
+use crate::durable_commits::durable_nanos;
 use crate::tables::{manager_of, memory_column};
 use crate::turns::{Calls, Figures, timed};
 use anyhow::anyhow;
@@ -40,9 +44,13 @@ const FEW: Calls = Calls {
     turns: 1,
 };
 
+/// How often each session makes a durable commit where the times are told, and where the answers alone are looked at.
+const DURABLE_COMMITS: [u32; 2] = [500, 10];
+
 fn main(rt: HostRuntime) -> anyhow::Result<()> {
     let is_full = is_full(&rt)?;
     let calls = if is_full { FULL } else { FEW };
+    tell_durable(&rt, &rt, is_full)?;
     let alloc = rt.alloc();
     let manager = manager_of(alloc, 10_000)?;
     let mut devices: Vec<Box<dyn ColumnDevice + Send>> = Vec::new(alloc);
@@ -58,6 +66,25 @@ fn main(rt: HostRuntime) -> anyhow::Result<()> {
         None => Err(anyhow!("an answer isn't the one that is due")),
         Some(figures) => tell(&rt, &figures, is_full),
     }
+}
+
+/// Times durable commits of sessions over a journal whose sync takes a millisecond.
+fn tell_durable<T: Threads + Wait + Clock + Sync>(
+    rt: &HostRuntime,
+    starter: &T,
+    is_full: bool,
+) -> anyhow::Result<()> {
+    let [many, few] = DURABLE_COMMITS;
+    let commits = if is_full { many } else { few };
+    for sessions in [1_u32, 16, 32] {
+        let nanos = durable_nanos(starter, rt.alloc(), sessions, commits)?;
+        let made = u64::from(sessions).wrapping_mul(u64::from(commits));
+        let rate = made.wrapping_mul(1_000_000_000) / nanos.max(1);
+        if is_full {
+            println!(rt; "durable commits a second, by {sessions} sessions: {rate}")?;
+        }
+    }
+    Ok(())
 }
 
 /// Whether the word `full` stands on the command line.
