@@ -6,6 +6,8 @@
 #![tactic(auto)]
 
 #[cfg(test)]
+mod acknowledged;
+#[cfg(test)]
 mod acts;
 #[cfg(test)]
 mod assertions;

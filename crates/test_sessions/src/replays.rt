@@ -2,7 +2,7 @@
 //! history gives it.
 ghost use Rattle.std.specs.Prelude.{◌≡◌, []};
 
-mod replay;
+mod record_replay;
 
 use crate::acts::written;
 use crate::assertions::{assert_holds, assert_holds_at};
@@ -11,7 +11,7 @@ use devices::{ColumnDevice, Store, have_failed};
 use manager::{History, Manager};
 use model::CommitReply;
 use publishing::Opening;
-use replay::Replay;
+pub(crate) use record_replay::Replay;
 use shared::{Closed, ImageStore, NewOpening, Session, Shared, open};
 use std::alloc::Global;
 use std::marker::Brand;

@@ -147,6 +147,23 @@ impl Replay {
         Ok(true)
     }
 
+    /// Whether the history starts at the newest table, and each of its records is due, up to the one that makes the table of a number.
+    pub(crate) fn goes_on_to(&mut self, history: &History, number: u64) -> Result<bool, NoMemory> {
+        let Some(records) = history.records() else {
+            return Ok(false);
+        };
+        self.base = self.number;
+        for entry in records {
+            if u64::from(self.number) >= number {
+                return Ok(true);
+            }
+            if !self.takes(entry)? {
+                return Ok(false);
+            }
+        }
+        Ok(true)
+    }
+
     /// Whether the manager's rows are those of the newest table.
     pub(crate) fn is_image(&self, manager: &Manager) -> Result<bool, NoMemory> {
         let Some(table) = self.table_at(self.number) else {
