@@ -1,8 +1,8 @@
 """The file THIRD-PARTY of a release: the crates of the toolchain whose code is linked into the library, and their licences.
 
-The library is linked of crates/pdt_c, of the crates below it, and of those crates of the kit that one of them names in crates.txt; each of
-these says in its `format` of which others of the kit it is made. A crate of the kit has its licences beside its sources, in files called
-LICENSE-*, or at the head of a source file. The texts are read from the kit when a release is made, and are no part of the repository."""
+The library links crates/pdt_c, the crates below it, and the crates of the kit that crates.txt names for one of them. The file `format` of a
+kit crate lists the other kit crates that it uses. A kit crate keeps its licences beside its sources, in files called LICENSE-*, or at the
+head of a source file. The texts are read from the kit when a release is made, and aren't part of the repository."""
 import os
 import re
 

@@ -1,7 +1,7 @@
-"""The record of a gate that has passed as a whole, out/gate.passed: of which commit, by which kit. tools/release makes a release of no other.
+"""The record of a whole gate that has passed, out/gate.passed: its commit and its kit. tools/release releases no other commit.
 
-The sources are those of a commit, and the same before and after the run. The record has the checksums of the log that the proofs left, and of
-the libraries that were built and tested."""
+The sources were those of that commit before and after the run. The record has the checksums of the proofs' log and of the libraries that
+were built and tested."""
 import hashlib
 import os
 import re

@@ -84,12 +84,12 @@ struct pdt_database {
   /* under turn_lock */
   pthread_mutex_t turn_lock;
   pthread_cond_t turn_ends;
-  bool is_led;               /* somebody has the turn */
-  bool is_syncing;           /* somebody syncs the file, or goes on in the next one */
+  bool is_led;               /* a thread has the turn */
+  bool is_syncing;           /* a thread syncs the file, or switches to the next one */
   bool has_failed;           /* the device has */
   uint64_t written, durable; /* the newest commit that the kernel has, and that the device has */
   uint64_t batches, syncs;
-  int next_file; /* the next one of the journal, whose name is durable: whoever has the turn goes on in it */
+  int next_file; /* the journal's next file, once its name is durable: the thread with the turn switches to it */
   uint64_t next_seq;
 
   atomic_uint_fast64_t published; /* the newest commit that begins may see; changed under fresh_lock */

@@ -4,6 +4,8 @@ use Rattle.model.specs.declared.write.CommitReply.{CommitReply}
 use Rattle.model.specs.declared.write.CommitReply.TheVariants.{Committed, Conflict, TooOld, Full}
 use Rattle.manager.specs.Managed.{Managed}
 use Rattle.publishing.specs.declared.item.Item.{Item}
+use Rattle.publishing.specs.Lists.{IsShownAgain}
+use Rattle.txn.specs.Version.{LayeredVersion}
 use Rattle.group_commit.specs.Batch.{IsBatch}
 use Rattle.shared.specs.Sessions.{Seat, WasReplied}
 use Rattle.durable_sessions.specs.Payloads.{IsLoggable, payloads_in}
@@ -28,3 +30,9 @@ IsDurable (Full n) safe = Unit {0}
 -- a session's transaction was decided as committed, at its number in the one history
 abbrev pub WasCommitted : Managed → Seat → Seat → Type 0
 WasCommitted o before after = (n : ℕ) × WasReplied o before after (Committed n)
+
+-- the list ends in a version of the same table: that of a fold, or of an image
+pub record EndsInTheSameTable (list : List Item) : Type 0 where
+  pub before : List Item
+  pub version : LayeredVersion
+  pub again : IsShownAgain before version list

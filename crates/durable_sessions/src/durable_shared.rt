@@ -1,5 +1,6 @@
 //! What durable sessions share: the locked state, the group log, and the calls that take them.
-ghost use Rattle.std.specs.Prelude.{◌≡◌, ◌≢◌, All, ◌+◌, ◌≤◌, ◌<◌, [], length, map, sum, IfErr, IfOk, IsNone, IsSome, OnOk, None, Some, Err, true, vec_capacity, vec_len};
+ghost use Rattle.std.specs.Prelude.{◌≡◌, ◌≢◌, ◌+◌, ◌≤◌, ◌<◌, [], All, length, map, sum};
+ghost use Rattle.std.specs.Prelude.{IfErr, IfOk, IsNone, IsSome, OnOk, None, Some, Err, true, vec_capacity, vec_len};
 ghost use Rattle.publishing.specs.Lists.{number_in};
 ghost use mathlib.Core.List.{IsPrefix};
 ghost use Rattle.model.specs.History.{IsLegal};
@@ -7,18 +8,17 @@ ghost use Rattle.shared.specs.Endings.{IsHandedOut};
 ghost use Rattle.shared.specs.Sessions.{WasReplied, WasTold, begun_in, new_seat, number_of};
 ghost use Rattle.std.specs.List.{range_with_len};
 ghost use Rattle.values.specs.declared.limits.TheConstants.{MAX_CLIENTS};
-ghost use Rattle.manager.specs.Managed.{IsManaged, newest_number};
+ghost use Rattle.manager.specs.Managed.{IsManaged};
 ghost use Rattle.durable_sessions.specs.Endings.{IsClosedDurably};
-ghost use Rattle.durable_sessions.specs.Queues.{IsDurable, WasCommitted};
+ghost use Rattle.durable_sessions.specs.Queues.{EndsInTheSameTable, IsDurable, WasCommitted};
 ghost use Rattle.durable_sessions.specs.Payloads.{payloads_in};
 ghost use Rattle.durable_sessions.specs.declared.fault.BeginFault.TheVariants as begin_fault;
 ghost use Rattle.durable_sessions.specs.declared.fault.CommitFault.TheVariants as commit_fault;
-ghost use Rattle.durable_sessions.specs.declared.fault.ImageFault.TheVariants as image_fault;
 
 use crate::durable_session::DurableSession;
 use crate::fault::{BeginFault, CommitFault, ImageFault};
 use crate::frame_queue::FrameQueue;
-use crate::locked_state::{Batch, LockedState, StoredImage};
+use crate::locked_state::{Batch, LockedState};
 use crate::opening_id::DurableOpening;
 use crate::published_prefix::PublishedPrefix;
 use crate::waiters::Waiters;
@@ -76,6 +76,16 @@ pub struct NewJournal<D: JournalDevice> {
     pub log: Appender<D>,
     pub frames: FrameSettings,
     pub watermark: NewWatermark,
+}
+
+/// An image that is stored.
+#[derive(Drop)]
+pub struct StoredImage<O: DurableOpening> {
+    pub generation: u32,
+    /// The number of the newest of its commits.
+    pub number: u64,
+    /// What was published up to the image: the last version is the image's.
+    pub published: PublishedPrefix<O>,
 }
 
 /// What is left of a closed opening.
@@ -171,6 +181,19 @@ pub fn open<O: DurableOpening, S: ImageStore, D: JournalDevice, R: Wait>(
     Ok(DurableParts { shared, clients })
 }
 
+/// Folds the layers under the lock, and gives what was then published.
+fn folded<O: DurableOpening, S: ImageStore, R: Wait>(
+    wait: &R,
+    state: &mut LockedState<O, S>,
+) -> Result<PublishedPrefix<O>, NoMemory>
+    ensures { IfOk result EndsInTheSameTable }
+{
+    match state.fold(wait) {
+        Ok(()) => Ok(state.published()),
+        Err(fault) => Err(fault),
+    }
+}
+
 impl<O: DurableOpening, S: ImageStore, D: JournalDevice> DurableShared<O, S, D> {
     /// Commits the session's transaction. It is decided over everything published, and published if it is committed. The call returns
     /// Committed once the device has synced its frame and all frames before it. One thread writes the frames of all that wait, and holds
@@ -258,14 +281,16 @@ impl<O: DurableOpening, S: ImageStore, D: JournalDevice> DurableShared<O, S, D> 
         Err(BeginFault::NotDurable)
     }
 
-    /// Folds the Write-PDT into the Read-PDT, as `Shared::fold`. Waits for the lock.
+    /// Folds the Write-PDT into the Read-PDT, as `Shared::fold`. Returns what was published up to the folded version. Waits for the lock.
     ///
     /// # Errors
     ///
     /// `NoMemory` where a growth is refused: nothing changes.
-    pub fn fold<R: Wait>(&self, wait: &R) -> Result<(), NoMemory> {
+    pub fn fold<R: Wait>(&self, wait: &R) -> Result<PublishedPrefix<O>, NoMemory>
+        ensures published { IfOk result EndsInTheSameTable }
+    {
         let mut state = self.state.lock(wait);
-        let outcome = state.fold(wait);
+        let outcome = folded(wait, &mut state);
         MutexGuard::unlock(state);
         outcome
     }
@@ -280,7 +305,9 @@ impl<O: DurableOpening, S: ImageStore, D: JournalDevice> DurableShared<O, S, D> 
         &self,
         client: &mut DurableSession<O>,
         wait: &R,
-    ) -> Result<StoredImage, ImageFault>
+    ) -> Result<StoredImage<O>, ImageFault>
+        ensures published { IfOk result (λ image. EndsInTheSameTable image.published) }
+        ensures number { IfOk result (λ image. image.number ≡ number_in O.opened.manager image.published) }
         ensures durable { IfOk result (λ image. image.number ≤ client.new.reader) }
         ensures session { client.new.session ≡ client.old.session }
         ensures later { client.old.reader ≤ client.new.reader }
@@ -370,19 +397,18 @@ impl<O: DurableOpening, S: ImageStore, D: JournalDevice> DurableShared<O, S, D> 
         group_log: &mut GroupLog<PublishedPrefix<O>, D, O>,
         state: &mut LockedState<O, S>,
         reader: &mut WatermarkReader<O>,
-    ) -> Result<StoredImage, ImageFault>
+    ) -> Result<StoredImage<O>, ImageFault>
+        ensures published { IfOk result (λ image. EndsInTheSameTable image.published) }
+        ensures number { IfOk result (λ image. image.number ≡ number_in O.opened.manager image.published) }
         ensures durable { IfOk result (λ image. image.number ≤ reader.new) }
-        ensures newest { IfOk result (λ image. image.number ≡ newest_number state.old.manager) }
         ensures later { reader.old ≤ reader.new }
-        ensures unasked { result ≡ Err image_fault.JournalFailed → state.new ≡ state.old }
     {
-        let batch = state.take(Vec::new(self.alloc));
         let Batch {
             from,
             to,
             number,
             bytes,
-        } = batch;
+        } = state.take(Vec::new(self.alloc));
         if group_log
             .write(&from, to, number, bytes.as_slice())
             .is_err()
@@ -394,7 +420,14 @@ impl<O: DurableOpening, S: ImageStore, D: JournalDevice> DurableShared<O, S, D> 
         let before = mem::replace(reader, group_log.reader(&self.watermark));
         group_log.retire(wait, &self.watermark, before);
         match state.checkpoint(wait) {
-            Ok(image) => Ok(image),
+            Ok(generation) => {
+                let published = state.published();
+                Ok(StoredImage {
+                    generation,
+                    number,
+                    published,
+                })
+            }
             Err(fault) => Err(ImageFault::Unstored(fault)),
         }
     }

@@ -19,11 +19,12 @@ mod waiters;
 
 pub use durable_session::DurableSession;
 pub use durable_shared::{
-    CloseBuffers, ClosedParts, DurableParts, DurableShared, FrameSettings, NewJournal, open,
+    CloseBuffers, ClosedParts, DurableParts, DurableShared, FrameSettings, NewJournal, StoredImage,
+    open,
 };
 pub use fault::{BeginFault, CommitFault, ImageFault};
 pub use frame_queue::FrameQueue;
 pub use laws::{a_crash_leaves_what_is_acknowledged, a_crash_of_a_reopened_journal};
-pub use locked_state::{Batch, LockedState, StoredImage};
+pub use locked_state::{Batch, LockedState};
 pub use opening_id::DurableOpening;
 pub use published_prefix::PublishedPrefix;

@@ -1,10 +1,12 @@
 //! What is under the lock: the state of the sessions, and the queue of frames that aren't written yet.
 ghost use Rattle.std.specs.Prelude.{◌≡◌, ◌+◌, ◌<◌, [], length, IfOk, MatchResult, OnErr, OnOk, Err, None};
 ghost use Rattle.group_commit.specs.Batch.{IsBatch};
-ghost use Rattle.manager.specs.Managed.{newest_number, rebuilt_of};
+ghost use Rattle.manager.specs.Managed.{HasFolded, newest_number, rebuilt_of};
 ghost use Rattle.model.specs.History.{IsLegal};
-ghost use Rattle.publishing.specs.Lists.{IsOfList, number_in};
+ghost use Rattle.publishing.specs.Lists.{IsOfList, IsShownAgain, layered_version, number_in};
+ghost use Rattle.shared.specs.Generations.{IsAnswered};
 ghost use Rattle.shared.specs.Sessions.{WasReplied, WasTold, number_of};
+ghost use Rattle.shared.specs.Stands.{IsShownBefore};
 ghost use Rattle.durable_sessions.specs.Payloads.{payloads_in};
 ghost use Rattle.durable_sessions.specs.declared.fault.CommitFault.TheVariants as commit_fault;
 
@@ -55,14 +57,6 @@ pub struct Batch<O: DurableOpening> {
     /// The number of the newest commit.
     pub number: u64,
     pub bytes: Vec<u8>,
-}
-
-/// An image that is stored.
-#[derive(Clone, Copy, Debug, PartialEq, Eq)]
-pub struct StoredImage {
-    pub generation: u32,
-    /// The number of the newest of its commits.
-    pub number: u64,
 }
 
 impl<O: DurableOpening, S: ImageStore> LockedState<O, S> {
@@ -157,7 +151,12 @@ impl<O: DurableOpening, S: ImageStore> LockedState<O, S> {
     /// # Errors
     ///
     /// `NoMemory` where a growth is refused: the manager keeps its layers.
-    pub fn fold<R: Wait>(&mut self, rt: &R) -> Result<(), NoMemory> {
+    pub fn fold<R: Wait>(&mut self, rt: &R) -> Result<(), NoMemory>
+        ensures manager { MatchResult result (λ _. HasFolded self.old.manager self.new.manager)
+            (λ _. self.new.manager ≡ self.old.manager) }
+        ensures list { MatchResult result (λ _. IsShownAgain self.old.list (layered_version self.new.manager) self.new.list)
+            (λ _. self.new.list ≡ self.old.list) }
+    {
         self.locked.fold(rt)
     }
 
@@ -166,15 +165,23 @@ impl<O: DurableOpening, S: ImageStore> LockedState<O, S> {
     /// # Errors
     ///
     /// As those of `Manager::checkpoint`.
-    pub fn checkpoint<R: Wait>(&mut self, rt: &R) -> Result<StoredImage, CheckpointFault>
-        ensures number { IfOk result (λ image. image.number ≡ newest_number self.old.manager) }
-        ensures manager { MatchResult result (λ _. self.new.manager ≡ rebuilt_of self.old.manager) (λ _. self.new.manager ≡ self.old.manager) }
+    pub fn checkpoint<R: Wait>(&mut self, rt: &R) -> Result<u32, CheckpointFault>
+        ensures manager { MatchResult result (λ _. self.new.manager ≡ rebuilt_of self.old.manager)
+            (λ _. self.new.manager ≡ self.old.manager) }
+        ensures list { IsShownBefore self.old.list (layered_version (rebuilt_of self.old.manager)) result self.new.list }
+        ensures answer { IsAnswered self.old.next result self.new.next }
     {
-        let number = self.locked.manager().version().number();
-        match self.locked.checkpoint(rt) {
-            Ok(generation) => Ok(StoredImage { generation, number }),
-            Err(fault) => Err(fault),
-        }
+        self.locked.checkpoint(rt)
+    }
+
+    /// All that was published. Takes no memory.
+    pub fn published(&self) -> PublishedPrefix<O>
+        ensures list { result ≡ self.now.list }
+        ensures newest { number_in O.opened.manager result ≡ newest_number self.now.manager }
+    {
+        // Called for what its clauses tell.
+        let _manager = self.locked.manager();
+        PublishedPrefix::new(self.locked.list())
     }
 
     /// Hands out the history so far, as `Locked::cut`. The queue stays.
@@ -198,11 +205,9 @@ impl<O: DurableOpening, S: ImageStore> LockedState<O, S> {
         ensures to { result.to ≡ self.old.list }
         ensures same { self.new ≡ self.old }
     {
-        let to = PublishedPrefix::new(self.locked.list());
+        let to = self.published();
         let from = mem::replace(&mut self.from, to.again());
         let number = to.number();
-        // Called for what its clauses tell.
-        let _manager = self.locked.manager();
         let bytes = self.queue.take(spare);
         Batch {
             from,

@@ -6,7 +6,8 @@ use Rattle.shared.specs.Sessions.{Seat}
 use Rattle.group_commit.specs.GroupLog.{GroupLogState}
 use Rattle.durable_sessions.proofs.durable_shared.open.Goals as goal
 
-known_as : {X : Type 0} (reader : X → ℕ) (n m : ℕ) (xs : List X) → n ≡ m → All (λ c. reader c ≡ n) xs → All (λ c. reader c ≡ m) xs
+known_as : {X : Type 0} (reader : X → ℕ) (n m : ℕ) (xs : List X) → n ≡ m → All (λ c. reader c ≡ n) xs
+    → All (λ c. reader c ≡ m) xs
 known_as reader n m xs is all = subst (λ k. All (λ c. reader c ≡ k) xs) is all
 
 pub clients_of-clients-requires-clause-room : goal.clients_of-clients-requires-clause-room
