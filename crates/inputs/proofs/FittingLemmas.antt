@@ -79,7 +79,7 @@ row_of-fits types number fields row e = elim (cases_Bool (nat_lt (MAX_ROWS + 1) 
   ]
 ]
 
-numbered_rows-fit : (types : List ColumnType) (number : ℕ) (records : List Fields) (rows : List Numbered)
+pub numbered_rows-fit : (types : List ColumnType) (number : ℕ) (records : List Fields) (rows : List Numbered)
     → numbered_rows types number records ≡ Ok rows
     → All (λ row. list_fault types row ≡ None) (map (λ row. row.row) rows)
 numbered_rows-fit types number [] rows e = let none : rows ≡ [] = cc e in rw none (λ k d l. absurd (omega (arith, l)))
@@ -148,13 +148,18 @@ all_fit schema [] h = refl
 all_fit schema (row ∷ rows) h =
     rw (h 0 row (omega arith), all_fit schema rows (All-tail (λ (r : Row). list_fault schema.types r ≡ None) row rows h)) refl
 
--- rows that were read, each once and in ascending key, are a table of the schema
+-- rows that fit, each once and in ascending key, are a table of the schema
+pub rows-table : (schema : Columns) (read rows : List Row) → All (λ row. list_fault schema.types row ≡ None) read
+    → IsPermutation read rows → IsAscending schema.key_cols rows
+    → model.IsTable schema (model.table_of schema.key_cols rows)
+rows-table schema read rows fit each_once ascending = record {
+  keyed = true-from _ (is_keyed_table-table_of schema.key_cols rows (sorted-rows schema.key_cols rows ascending));
+  fitting = all_fit schema rows (All-permutation (λ (r : Row). list_fault schema.types r ≡ None) read rows each_once fit);
+}
+
+-- the same of rows that were read
 pub table_of-table : (records : List Fields) (schema : Columns) (read rows : List Row) → table_of records ≡ Ok (schema, read)
     → IsPermutation read rows → IsAscending schema.key_cols rows
     → model.IsTable schema (model.table_of schema.key_cols rows)
-table_of-table records schema read rows said each_once ascending = record {
-  keyed = true-from _ (is_keyed_table-table_of schema.key_cols rows (sorted-rows schema.key_cols rows ascending));
-  fitting =
-      all_fit schema rows (All-permutation (λ (r : Row). list_fault schema.types r ≡ None) read rows each_once
-      (table_of-fits records schema read said));
-}
+table_of-table records schema read rows said each_once ascending =
+    rows-table schema read rows (table_of-fits records schema read said) each_once ascending

@@ -13,5 +13,8 @@ mod WorkedTables
 mod FillingLemmas
 mod AscentLemmas
 mod LoadLemmas
+mod PlainLemmas
+mod ArrangedLemmas
+mod PlainTableLemmas
 mod NumberLemmas
 pub mod CallerLemmas

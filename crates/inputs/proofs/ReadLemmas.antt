@@ -1,5 +1,5 @@
 -- The records of a text, one after the other, and lists that are read element by element.
-use Rattle.std.proofs.Common.{◌≡◌, ◌∙◌, ◌<◌, ℕ, zero, suc, Bool, true, false, List, [], ◌∷◌, ◌++◌, length, drop, Option, Some, None, Result, Ok, Err, Bor, refl, sym, ap, append_assoc, inl, subst, arith}
+use Rattle.std.proofs.Common.{◌≡◌, ◌∙◌, ◌<◌, ◌≤◌, ℕ, zero, suc, Bool, true, false, List, [], ◌∷◌, ◌++◌, length, drop, slice_get, Option, Some, None, Result, Ok, Err, Bor, refl, sym, ap, append_assoc, inl, subst, arith}
 use Rattle.std.specs.Result.{IsErrAnd, IfErr, IfOk}
 use Rattle.csv.specs.Machine.{Read}
 use Rattle.csv.specs.Reading.{AreRecords, Reached, ReadRecord, default_config, is_flexible, strip_bom, took_first}
@@ -10,7 +10,7 @@ use Rattle.csv.specs.declared.parser.State.TheVariants as st
 use Rattle.csv.specs.declared.reader.Reader.{Reader}
 use Rattle.csv.proofs.ReadFacts.{rows-more, rows-end}
 use Rattle.inputs.specs.Cells.{or_else, then_cons, prepend}
-use Rattle.inputs.specs.Reading.{Fields, AreRecordsOf, IsReading, ReadsOne}
+use Rattle.inputs.specs.Reading.{Fields, AreRecordsOf, IsReading, ReadsOne, found_fields}
 
 -- ---- lists
 
@@ -62,6 +62,14 @@ unfolding field_at
 field-there [] i e l = absurd (omega (arith, l))
 field-there (f ∷ fields) zero e l = cc e
 field-there (f ∷ fields) (suc i) e l = field-there fields i e (omega (arith, l))
+
+-- past a record's last field there is none
+pub field-none : (fields : Fields) (i : ℕ) → None ≡ field_at fields i → drop i fields ≡ []
+unfolding field_at
+field-none [] zero e = refl
+field-none [] (suc i) e = refl
+field-none (f ∷ fields) zero e = cc e
+field-none (f ∷ fields) (suc i) e = field-none fields i e
 
 -- ---- records
 
@@ -123,3 +131,29 @@ same_of cfg s xs (r ∷ rs) (q ∷ all) h g =
 -- a text has one list of records
 pub records-same : (text : List ℕ) (read all : List Fields) → AreRecordsOf text read → AreRecordsOf text all → all ≡ read
 records-same text read all h g = same_of default_config st.StartRecord (strip_bom text) read all h g
+
+-- ---- a record by its number
+
+past : (read : List Fields) (fields : Fields) (rest : List Fields) → slice_get ((read ++ fields ∷ []) ++ rest) (length read) ≡ Some fields
+past [] fields rest = refl
+past (r ∷ read) fields rest = past read fields rest
+
+none_past : (records : List Fields) (n : ℕ) → length records ≤ n → slice_get records n ≡ None
+none_past [] n h = refl
+none_past (r ∷ records) zero h = absurd (omega (arith, h))
+none_past (r ∷ records) (suc n) h = none_past records n (omega (arith, h))
+
+-- a record that was found behind so many is the one of that place, and where none was found there is none there
+pub found-there : (text : List ℕ) (read : List Fields) (reader : Reader (Bor (List ℕ))) (found : Bool) (fields : Fields) (n : ℕ)
+    → ReadsOne text read reader found fields → length read ≡ n → (records : List Fields) → AreRecordsOf text records
+    → found_fields found fields ≡ slice_get records n
+found-there text read reader true fields n h e records g =
+    let start = records-start text (read ++ fields ∷ []) records reader h g in
+    rw (start.1, ← e) (sym (past read fields start.0))
+found-there text read reader false fields n h e records g =
+    rw (records-same text read records h g) (sym (none_past read n (omega (arith, e))))
+
+-- where the text ends before a place there is no record there
+pub none-there : (text : List ℕ) (read : List Fields) (n : ℕ) → AreRecordsOf text read → length read ≤ n → (records : List Fields)
+    → AreRecordsOf text records → None ≡ slice_get records n
+none-there text read n h few records g = rw (records-same text read records h g) (sym (none_past read n few))

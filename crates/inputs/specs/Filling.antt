@@ -12,9 +12,9 @@ use Rattle.values.specs.declared.value.Value.{Value}
 use Rattle.values.specs.declared.value.Value.TheVariants.{Int, Text, Bool as Truth}
 use Rattle.blocks.specs.Column.{Column}
 use Rattle.stable.specs.Rows.{cell_at, row_at}
-use Rattle.inputs.specs.Input.{row_of}
+use Rattle.inputs.specs.Input.{numbered_rows, row_of}
 use Rattle.inputs.specs.Order.{IsLeastRepeat}
-use Rattle.inputs.specs.Reading.{Fields}
+use Rattle.inputs.specs.Reading.{AreRecordsOf, Fields}
 use Rattle.inputs.specs.declared.ascent.Keyed.{Keyed}
 use Rattle.inputs.specs.Input.{Numbered}
 
@@ -48,6 +48,12 @@ row_in columns place = record { number = place + 2; row = row_at columns place }
 
 abbrev pub rows_in : ℕ → List Column → List Numbered
 rows_in count columns = map (row_in columns) (range_with_len 0 count)
+
+-- the records after the header say the rows that the columns show
+pub record AreRead (text : List ℕ) (header : Fields) (types : List ColumnType) (columns : List Column) (count : ℕ) : Type 0 where
+  pub records : List Fields
+  pub are : AreRecordsOf text (header ∷ records)
+  pub said : numbered_rows types 2 records ≡ Ok (rows_in count columns)
 
 -- ---- orders
 

@@ -4,6 +4,7 @@ pub mod Clients
 pub mod Header
 pub mod Input
 pub mod Order
+pub mod Plain
 pub mod Reading
 pub mod Script
 pub mod Typed

@@ -1,5 +1,5 @@
 -- The records of a text, and how far a reader has come.
-use Rattle.std.specs.Prelude.{◌≡◌, ℕ, Bool, true, false, Some, List, ◌++◌, ◌∷◌, []}
+use Rattle.std.specs.Prelude.{◌≡◌, ℕ, Bool, true, false, Option, None, Some, List, ◌++◌, ◌∷◌, []}
 use Rattle.std.proofs.Common.{Bor}
 use Rattle.csv.specs.Reading.{AreRecords, Reached, Ready, default_config, source_of, strip_bom, reader_trim, reader_config, reader_state, is_flexible}
 use Rattle.csv.specs.declared.parser.State.TheVariants as st
@@ -29,3 +29,8 @@ pub record IsReading (text : List ℕ) (read : List Fields) (reader : Reader (Bo
 abbrev pub ReadsOne : List ℕ → List Fields → Reader (Bor (List ℕ)) → Bool → Fields → Type 0
 ReadsOne text read reader true fields = IsReading text (read ++ fields ∷ []) reader
 ReadsOne text read reader false fields = AreRecordsOf text read
+
+-- the fields of a record that was found
+abbrev pub found_fields : Bool → Fields → Option Fields
+found_fields true fields = Some fields
+found_fields false fields = None

@@ -183,7 +183,7 @@ fn read_set(
 }
 
 /// The column of this name.
-fn find_column(schema: &Schema, name: &[u8]) -> Option<usize>
+pub fn find_column(schema: &Schema, name: &[u8]) -> Option<usize>
     ensures first { result ≡ place_from 0 name.now schema.now.names }
     ensures within { IfSome result (λ col. col < length schema.now.types) }
 {

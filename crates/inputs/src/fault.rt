@@ -1,6 +1,7 @@
 //! What is refused of a table or a script. Each fault shows as its name and its numbers.
 ghost use Rattle.std.specs.Prelude.{◌≡◌};
 ghost use Rattle.inputs.specs.declared.fault.TableFault.TheVariants as table_fault;
+ghost use Rattle.inputs.specs.declared.fault.PlainFault.TheVariants as plain_fault;
 ghost use Rattle.inputs.specs.declared.fault.ScriptFault.TheVariants as script_fault;
 
 use std::alloc::{AllocError, AllocFailed};
@@ -41,6 +42,17 @@ pub enum TableFault {
     /// A growth was refused.
     #[error("NoMemory")]
     NoMemory,
+}
+
+/// The first fault of a table's text whose header names no types.
+#[derive(Clone, Copy, Debug, PartialEq, Eq, Error)]
+pub enum PlainFault {
+    /// The name of this index in the key is no column's, or is there twice.
+    #[error("NoColumn {0}")]
+    NoColumn(usize),
+    /// The text is wrong, or a growth was refused. Cells count in the text's order.
+    #[error("{0}")]
+    Table(TableFault),
 }
 
 /// The first fault of a script's text. Records count from 1, and fields from 0, the client's name being field 0.
@@ -114,5 +126,37 @@ impl<T: Drop> From<AllocFailed<T>> for ScriptFault {
 
     fn from(_: AllocFailed<T>) -> ScriptFault {
         ScriptFault::NoMemory
+    }
+}
+
+impl From<TableFault> for PlainFault {
+    ghost from_gives = { λ given fault. fault ≡ plain_fault.Table given };
+
+    fn from(fault: TableFault) -> PlainFault {
+        PlainFault::Table(fault)
+    }
+}
+
+impl From<NoMemory> for PlainFault {
+    ghost from_gives = { λ _ fault. fault ≡ plain_fault.Table table_fault.NoMemory };
+
+    fn from(_: NoMemory) -> PlainFault {
+        PlainFault::Table(TableFault::NoMemory)
+    }
+}
+
+impl<T: Drop> From<AllocFailed<T>> for PlainFault {
+    ghost from_gives = { λ _ fault. fault ≡ plain_fault.Table table_fault.NoMemory };
+
+    fn from(_: AllocFailed<T>) -> PlainFault {
+        PlainFault::Table(TableFault::NoMemory)
+    }
+}
+
+impl From<AllocError> for PlainFault {
+    ghost from_gives = { λ _ fault. fault ≡ plain_fault.Table table_fault.NoMemory };
+
+    fn from(_: AllocError) -> PlainFault {
+        PlainFault::Table(TableFault::NoMemory)
     }
 }

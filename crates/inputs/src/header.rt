@@ -25,9 +25,9 @@ const KINDS: [(ColumnType, bool); 6] = [
 /// A column, as its header cell names it.
 #[derive(Drop)]
 pub(crate) struct Heading {
-    name: Text,
-    column: ColumnType,
-    is_key: bool,
+    pub(crate) name: Text,
+    pub(crate) column: ColumnType,
+    pub(crate) is_key: bool,
 }
 
 /// The schema of the first record that the reader gives.
@@ -115,7 +115,7 @@ fn read_heading(alloc: Global, bytes: &[u8]) -> Result<Option<Heading>, NoMemory
 }
 
 /// Where the first colon is.
-fn first_colon(bytes: &[u8]) -> Option<usize>
+pub fn first_colon(bytes: &[u8]) -> Option<usize>
     ensures first { result ≡ position is_colon bytes.now }
     ensures within { IfSome result (λ colon. colon < length bytes.now) }
 {
@@ -123,7 +123,7 @@ fn first_colon(bytes: &[u8]) -> Option<usize>
 }
 
 /// A column of this name, where it may have it.
-fn name_heading(
+pub(crate) fn name_heading(
     alloc: Global,
     name: &[u8],
     column: ColumnType,
@@ -163,7 +163,7 @@ pub fn kind_word(column: ColumnType, is_key: bool) -> &'static str
 }
 
 /// The type and the key of this word.
-fn read_kind(bytes: &[u8]) -> Option<(ColumnType, bool)>
+pub fn read_kind(bytes: &[u8]) -> Option<(ColumnType, bool)>
     ensures { result ≡ heading_kind bytes.now }
 {
     KINDS
@@ -173,7 +173,7 @@ fn read_kind(bytes: &[u8]) -> Option<(ColumnType, bool)>
 }
 
 /// The schema of columns, those of the key first.
-fn schema_named(alloc: Global, headings: Vec<Heading>) -> Result<Schema, TableFault>
+pub(crate) fn schema_named(alloc: Global, headings: Vec<Heading>) -> Result<Schema, TableFault>
     ensures ok { IfOk result (λ schema. as_schema (Ok headings.items) ≡ Ok schema) }
     ensures err { IfErr result (λ fault. fault ≢ TableFault.NoMemory → as_schema (Ok headings.items) ≡ Err fault) }
 {

@@ -66,7 +66,7 @@ impl Verb {
 }
 
 /// The verb of this word.
-pub(crate) fn read_verb(word: &[u8]) -> Option<Verb>
+pub fn read_verb(word: &[u8]) -> Option<Verb>
     ensures { result ≡ verb_of word.now }
 {
     VERBS
@@ -76,7 +76,7 @@ pub(crate) fn read_verb(word: &[u8]) -> Option<Verb>
 }
 
 /// How many arguments the verb wants.
-pub(crate) fn count_arguments(schema: &Schema, verb: Verb) -> usize
+pub fn count_arguments(schema: &Schema, verb: Verb) -> usize
     ensures count { result ≡ arguments_of schema.now verb }
     ensures few { result ≤ 34 }
 {

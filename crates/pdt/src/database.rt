@@ -8,7 +8,7 @@ use tables::WantedFiles;
 /// What was read of the files of a table.
 #[derive(Drop)]
 pub(crate) struct ReadFiles {
-    header: io::Result<Vec<u8>>,
+    pub(crate) header: io::Result<Vec<u8>>,
     columns: Vec<io::Result<Vec<u8>>>,
     journal: Vec<io::Result<Vec<u8>>>,
 }

@@ -8,14 +8,16 @@ ghost use Rattle.std.specs.Box.{box_value};
 mod database;
 mod files;
 mod journals;
+mod refused;
 mod streams;
 
-use crate::database::{lent_files, manifest_path, names_in, read_files};
+use crate::database::{ReadFiles, lent_files, manifest_path, names_in, read_files};
 use crate::files::{
     StoreFiles, StorePaths, bytes_of, bytes_of_all, column_path, header_path, images_path,
     is_missing, journal_path, make_store, remove_store, store_paths, stored_bytes,
 };
 use crate::journals::Journaling;
+use crate::refused::{Explained, Refused, explained_opening, explained_recovery};
 use crate::streams::hold_streams;
 use devices::{ColumnDevice, MemColumn, Store, StoreFault, have_failed};
 use journaled::{JournaledRun, StoreBytes, recover_journaled, run_journaled};
@@ -68,7 +70,10 @@ fn main(rt: HostRuntime) -> ExitCode {
     let streams = hold_streams(&rt);
     let status = match &streams {
         Ok(_) => run_command_line(&rt, &rt),
-        Err(_) => tell(&rt, &Err(Refusal::Output(ShowFault::Write))),
+        Err(_) => tell(
+            &rt,
+            &Err(Refused::new(Explained::Nothing, Refusal::Output(ShowFault::Write))),
+        ),
     };
     ExitCode::from(status)
 }
@@ -113,13 +118,19 @@ fn settings_of<'w>(rt: &HostRuntime, words: &'w [&'w str]) -> Result<Settings<'w
     }
 }
 
-/// Tells what was refused, and gives the status to end with.
-fn tell(rt: &HostRuntime, answer: &Result<u8, Refusal>) -> u8 {
-    if let Err(refusal) = answer {
-        // Where even this can't be written, the status alone tells.
-        let _ = eprintln!(rt; "{refusal}");
+/// Tells what was refused, with what explains it behind it, and gives the status to end with.
+fn tell(rt: &HostRuntime, answer: &Result<u8, Refused>) -> u8 {
+    match answer {
+        Ok(status) => status_of(&Ok(*status)),
+        Err(refused) => {
+            // Where even this can't be written, the status alone tells.
+            let _ = eprintln!(rt; "{}", refused.refusal);
+            if let Some(sentence) = refused.sentence() {
+                let _ = eprintln!(rt; "pdt: {sentence}");
+            }
+            status_of(&Err(refused.refusal))
+        }
     }
-    status_of(answer)
 }
 
 /// The words of the command line, the first of which is the program's name.
@@ -154,7 +165,7 @@ fn carry_out<T: Threads + Wait + Sync>(
     rt: &HostRuntime,
     starter: &T,
     settings: Settings<'_>,
-) -> Result<u8, Refusal> {
+) -> Result<u8, Refused> {
     match settings {
         Settings::Run {
             table,
@@ -165,6 +176,7 @@ fn carry_out<T: Threads + Wait + Sync>(
             recent,
             limit,
             conflicts,
+            explain,
         } => {
             let options = OpenOptions {
                 recent,
@@ -181,32 +193,54 @@ fn carry_out<T: Threads + Wait + Sync>(
                 Some(dir) => Storage::Folder(dir),
                 None => Storage::Memory,
             };
-            run(rt, turns, Inputs { table, script }, storage, options)
+            let opened = open_files(rt, Inputs { table, script }, options, explain)?;
+            match run(rt, turns, storage, opened) {
+                Ok(status) => Ok(status),
+                Err(refusal) => Err(Refused::new(Explained::plainly(explain), refusal)),
+            }
         }
-        Settings::Recover { dir, table } => recover_folder(rt, dir, table),
+        Settings::Recover {
+            dir,
+            table,
+            explain,
+        } => recover_folder(rt, dir, table, explain),
     }
 }
 
 /// Opens the table's file, and reads the script's. Their bytes are let go before a call is made, and what this takes of the
 /// stack is free again.
 #[inline(never)]
-fn open_files(rt: &HostRuntime, inputs: Inputs<'_>, options: OpenOptions) -> Result<Opened, Refusal>
+fn open_files(
+    rt: &HostRuntime,
+    inputs: Inputs<'_>,
+    options: OpenOptions,
+    explain: bool,
+) -> Result<Opened, Refused>
     ensures { IfOk result (λ opened. opened.script.schema ≡ opened.manager.schema) }
 {
     let table = fs::read(rt, inputs.table);
     let script = fs::read(rt, inputs.script);
-    open_texts(rt.alloc(), bytes_of(&table), bytes_of(&script), options)
+    match open_texts(rt.alloc(), bytes_of(&table), bytes_of(&script), options) {
+        Ok(opened) => Ok(opened),
+        Err(refusal) => Err(explained_opening(
+            explain,
+            rt.alloc(),
+            bytes_of(&table),
+            bytes_of(&script),
+            refusal,
+        )),
+    }
 }
 
-/// Runs the script's file over the table's, with a store in the storage.
+/// Runs the script over the table that was opened, with a store in the storage.
 fn run<T: Threads + Wait + Sync>(
     rt: &HostRuntime,
     turns: Turns<'_, T>,
-    inputs: Inputs<'_>,
     storage: Storage<'_>,
-    options: OpenOptions,
-) -> Result<u8, Refusal> {
-    let opened = open_files(rt, inputs, options)?;
+    opened: Opened,
+) -> Result<u8, Refusal>
+    requires { opened.script.schema ≡ opened.manager.schema }
+{
     match storage {
         Storage::Journaled(dir) => run_with_journal(rt, dir, opened),
         Storage::Folder(dir) => run_in_folder(rt, turns, dir, opened),
@@ -378,41 +412,102 @@ fn column_files(
 
 /// Prints the table that a folder has: that of the name, where it has a database, or else its store's.
 #[inline(never)]
-fn recover_folder(rt: &HostRuntime, dir: &str, name: Option<&str>) -> Result<u8, Refusal> {
-    let manifest = fs::read(rt, manifest_path(rt.alloc(), dir)?.as_str());
+fn recover_folder(
+    rt: &HostRuntime,
+    dir: &str,
+    name: Option<&str>,
+    explain: bool,
+) -> Result<u8, Refused> {
+    let path = match manifest_path(rt.alloc(), dir) {
+        Ok(path) => path,
+        Err(refusal) => return Err(Refused::new(Explained::plainly(explain), refusal)),
+    };
+    let manifest = fs::read(rt, path.as_str());
     match name {
-        Some(_) if is_missing(&manifest) => Err(Refusal::NoDatabase),
-        None if is_missing(&manifest) => recover_store(rt, dir),
-        _ => recover_database(rt, dir, stored_bytes(&manifest)?, name),
+        Some(_) if is_missing(&manifest) => Err(Refused::new(
+            Explained::plainly(explain),
+            Refusal::NoDatabase,
+        )),
+        None if is_missing(&manifest) => recover_store(rt, dir, explain),
+        _ => recover_database(rt, dir, &manifest, name, explain),
     }
 }
 
-/// Prints a table of the database in a folder, whose manifest has this text: its image, with the commits of the journal since then.
+/// Prints a table of the database in a folder.
 fn recover_database(
     rt: &HostRuntime,
     dir: &str,
-    text: &[u8],
+    manifest: &io::Result<Vec<u8>>,
     name: Option<&str>,
-) -> Result<u8, Refusal> {
+    explain: bool,
+) -> Result<u8, Refused> {
     let alloc = rt.alloc();
+    let read = match files_of_table(rt, dir, manifest, name) {
+        Ok(read) => read,
+        Err(refusal) => return Err(Refused::new(Explained::plainly(explain), refusal)),
+    };
+    match recover_read(rt, manifest, name, &read) {
+        Ok(status) => Ok(status),
+        Err(refusal) => Err(explained_recovery(explain, alloc, bytes_of(&read.header), refusal)),
+    }
+}
+
+/// Reads the files of a table of the database in a folder.
+fn files_of_table(
+    rt: &HostRuntime,
+    dir: &str,
+    manifest: &io::Result<Vec<u8>>,
+    name: Option<&str>,
+) -> Result<ReadFiles, Refusal> {
+    let alloc = rt.alloc();
+    let text = stored_bytes(manifest)?;
     let names = names_in(rt, dir)?;
     let listed = words_of(alloc, names.as_slice())?;
     let wanted = wanted_files(alloc, text, name, listed.as_slice())?;
-    let read = read_files(rt, dir, &wanted)?;
-    let files = lent_files(alloc, &read)?;
+    read_files(rt, dir, &wanted)
+}
+
+/// Prints a table of a database whose files were read: its image, with the commits of the journal since then.
+fn recover_read(
+    rt: &HostRuntime,
+    manifest: &io::Result<Vec<u8>>,
+    name: Option<&str>,
+    read: &ReadFiles,
+) -> Result<u8, Refusal> {
+    let alloc = rt.alloc();
+    let files = lent_files(alloc, read)?;
     let bytes = TableBytes {
         header: files.header,
         columns: files.columns.as_slice(),
         journal: files.journal.as_slice(),
     };
-    recover_table(alloc, text, name, bytes, &mut io::writer(rt))
+    recover_table(
+        alloc,
+        stored_bytes(manifest)?,
+        name,
+        bytes,
+        &mut io::writer(rt),
+    )
 }
 
 /// Prints the image that the store in a folder has, with the commits of its journal, where it has one.
-fn recover_store(rt: &HostRuntime, dir: &str) -> Result<u8, Refusal> {
+fn recover_store(rt: &HostRuntime, dir: &str, explain: bool) -> Result<u8, Refused> {
     let alloc = rt.alloc();
-    let header = fs::read(rt, header_path(alloc, dir)?.as_str());
-    let schema = read_header(alloc, bytes_of(&header))?;
+    let path = match header_path(alloc, dir) {
+        Ok(path) => path,
+        Err(refusal) => return Err(Refused::new(Explained::plainly(explain), refusal)),
+    };
+    let header = fs::read(rt, path.as_str());
+    match recover_under(rt, dir, &header) {
+        Ok(status) => Ok(status),
+        Err(refusal) => Err(explained_recovery(explain, alloc, bytes_of(&header), refusal)),
+    }
+}
+
+/// Prints the image that the store in a folder has, under the header that was read.
+fn recover_under(rt: &HostRuntime, dir: &str, header: &io::Result<Vec<u8>>) -> Result<u8, Refusal> {
+    let alloc = rt.alloc();
+    let schema = read_header(alloc, bytes_of(header))?;
     let files = column_files(rt, dir, schema.width())?;
     let columns = bytes_of_all(alloc, files.as_slice())?;
     let images = fs::read(rt, images_path(alloc, dir)?.as_str());

@@ -17,3 +17,4 @@ pub mod Journals
 pub mod Entries
 pub mod Filling
 pub mod Columns
+pub mod Listed

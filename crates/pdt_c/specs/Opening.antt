@@ -4,6 +4,7 @@ use Rattle.model.specs.declared.clash.ConflictRule.{ConflictRule}
 use Rattle.model.specs.declared.clash.ConflictRule.TheVariants.{ByRow, ByColumn}
 use Rattle.stable.specs.Stable.{Stable}
 use Rattle.inputs.specs.Input.{IsTableOf}
+use Rattle.inputs.specs.Plain.{IsPlainTableOf}
 use Rattle.devices.specs.Stored.{stored_image}
 use Rattle.manager.specs.Managed.{Managed, opened}
 
@@ -20,6 +21,13 @@ opened_counting s limit recent rule = record (opened s limit recent rule) { keep
 pub record IsOpenedOn (text : List ℕ) (row_limit recent : ℕ) (by_row : Bool) (m : Managed) : Type 0 where
   pub table : Stable
   pub table_is : IsTableOf text table.schema table.rows
+  pub opened_is : m ≡ opened_counting table row_limit recent (rule_of by_row)
+
+-- a manager that was opened on the table of a text whose header names no types
+pub record IsOpenedOnPlain (text : List ℕ) (key : List (List ℕ)) (sample : ℕ) (row_limit recent : ℕ) (by_row : Bool) (m : Managed)
+    : Type 0 where
+  pub table : Stable
+  pub table_is : IsPlainTableOf text key sample table.schema table.rows
   pub opened_is : m ≡ opened_counting table row_limit recent (rule_of by_row)
 
 -- a manager that was opened on the table that columns store under the schema of a header

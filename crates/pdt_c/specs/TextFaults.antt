@@ -1,10 +1,17 @@
 -- Why a text is no table, as C is told it.
-use Rattle.std.specs.Prelude.{ℕ}
+use Rattle.std.specs.Prelude.{◌≡◌, ◌<◌, ℕ, List}
 use Rattle.values.specs.declared.limits.TheConstants.{MAX_COLUMNS}
 use Rattle.values.specs.declared.fault.SchemaFault.{SchemaFault}
 use Rattle.values.specs.declared.fault.SchemaFault.TheVariants as schema
 use Rattle.inputs.specs.declared.fault.TableFault.{TableFault}
 use Rattle.inputs.specs.declared.fault.TableFault.TheVariants.{NoHeader, BadHeader, Schema, BadCount, BadText, BadCell, TextTooLong, RepeatedKey, TooManyRows, NoMemory}
+use Rattle.inputs.specs.declared.fault.PlainFault.{PlainFault}
+use Rattle.inputs.specs.declared.fault.PlainFault.TheVariants.{NoColumn, Table}
+use Rattle.inputs.specs.Plain.{types_found}
+use Rattle.inputs.specs.Reading.{AreRecordsOf, Fields}
+use Rattle.sentences.specs.Tables.{table_sentence}
+use Rattle.values.specs.declared.value.ColumnType.{ColumnType}
+use Rattle.pdt_c.specs.Told.{IsPut}
 use Rattle.pdt_c.specs.declared.text_fault.TextFault.{TextFault}
 
 -- this sentence, at this record, which counts from 1 with the header, and this column
@@ -31,3 +38,23 @@ told_of (TextTooLong row column) = at row column 10
 told_of (RepeatedKey row) = at row 0 11
 told_of TooManyRows = at 0 0 0
 told_of NoMemory = at 0 0 0
+
+-- the same of a text whose header names no types; the column is then the index of a name of the key
+abbrev pub told_of_plain : PlainFault → TextFault
+told_of_plain (NoColumn name) = at 1 name 12
+told_of_plain (Table (BadHeader column)) = at 1 column 13
+told_of_plain (Table fault) = told_of fault
+
+-- bytes, if there are any, are the sentence that explains a fault of a text: for some line, on which no contract says that its record begins
+abbrev pub Explains : List ℕ → List ColumnType → TableFault → ℕ → List ℕ → Type 0
+Explains text types fault count room =
+    0 < count
+    → (line : ℕ) × ((records : List Fields) → AreRecordsOf text records → IsPut count room (table_sentence types line records fault))
+
+-- the same of a text whose header names no types, which are those that the first `sample` records show
+abbrev pub ExplainsPlain : List ℕ → ℕ → PlainFault → ℕ → List ℕ → Type 0
+ExplainsPlain text sample (NoColumn name) count room = count ≡ 0
+ExplainsPlain text sample (Table fault) count room =
+    0 < count
+    → (line : ℕ) × ((records : List Fields) → AreRecordsOf text records
+    → IsPut count room (table_sentence (types_found sample records) line records fault))

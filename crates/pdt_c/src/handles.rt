@@ -5,6 +5,7 @@ pub(crate) mod ended;
 pub(crate) mod held;
 pub(crate) mod image;
 pub(crate) mod layer;
+pub(crate) mod listed;
 pub(crate) mod next_table;
 pub(crate) mod pin;
 pub(crate) mod store;

@@ -1,4 +1,4 @@
-//! The door for engines that are written in C: a table's manager and its transactions behind handles that C holds, as
+//! The exports for engines that are written in C: a table's manager and its transactions behind handles that C holds, as
 //! functions of the C calling convention.
 //!
 //! *What crosses.* Numbers, slices of numbers and of bytes, and handles: a struct of one pointer, which C keeps and hands
@@ -10,7 +10,7 @@
 //!
 //! *What a contract sees.* A handle is what it holds, or nothing; cells are those whose numbers and bytes C gave.
 //!
-//! *What C owes.* Nothing checks a C caller against the contracts: `door/c/pdt.c` meets each `requires` before it calls.
+//! *What C owes.* Nothing checks a C caller against the contracts: `libpdt/src` meets each `requires` before it calls.
 #![tactic(auto)]
 
 mod byte_column;

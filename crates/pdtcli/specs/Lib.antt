@@ -1,4 +1,5 @@
 pub mod Clients
+pub mod Explanations
 pub mod Outcome
 pub mod Output
 pub mod Program

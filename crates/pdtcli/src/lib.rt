@@ -7,14 +7,15 @@
 //!
 //! *What it stands on.* `values` for schemas, rows and limits, `model` for tables, writes and histories, `stable` for the
 //! table, `txn` for transactions, `devices` for stores, `manager` for commits, `publishing` and `shared` for sessions,
-//! `words` and `inputs` for what the program is given, `journal`, `images` and `replay` for the faults of a journal, `csv` for
-//! records, `itoa` for numbers, and `thiserror` for what a fault shows.
+//! `words` and `inputs` for what the program is given, `sentences` for what explains a refusal, `journal`, `images` and `replay`
+//! for the faults of a journal, `csv` for records, `itoa` for numbers, and `thiserror` for what a fault shows.
 #![tactic(auto)]
 
 mod batch;
 mod caller;
 mod client;
 mod clients;
+mod explanation;
 mod gate;
 mod header;
 mod image;
@@ -35,6 +36,7 @@ mod shown;
 pub use caller::{Caller, reply_of};
 pub use clients::{RunFault, run_clients};
 pub use devices::StoreFault;
+pub use explanation::{explain_opening, explain_recovery, plain_sentence};
 pub use gate::{Gate, OpenGate};
 pub use header::stored_header;
 pub use inputs::{ScriptFault, TableFault};

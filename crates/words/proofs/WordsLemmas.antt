@@ -27,9 +27,10 @@ usage-free = refl
 -- the same command, with the same words for each argument
 pub AreOf-same : (a b : Option Text) (f g : Text → Option Text) → a ≡ b → ((id : Text) → f id ≡ g id) → (settings : Settings)
     → AreOf a f settings → AreOf b g settings
-AreOf-same a b f g command same (Recover dir table) h = rw (← command, ← same (codes "dir"), ← same (codes "table")) h
-AreOf-same a b f g command same (Run table script threads store journal recent limit conflicts) h =
-    rw (← command, ← same (codes "table"), ← same (codes "script"), ← same (codes "threads"), ← same (codes "store"), ← same (codes "journal"), ← same (codes "recent"), ← same (codes "limit"), ← same (codes "conflicts")) h
+AreOf-same a b f g command same (Recover dir table explain) h =
+    rw (← command, ← same (codes "dir"), ← same (codes "table"), ← same (codes "explain")) h
+AreOf-same a b f g command same (Run table script threads store journal recent limit conflicts explain) h =
+    rw (← command, ← same (codes "table"), ← same (codes "script"), ← same (codes "threads"), ← same (codes "store"), ← same (codes "journal"), ← same (codes "recent"), ← same (codes "limit"), ← same (codes "conflicts"), ← same (codes "explain")) h
 
 pub if-AreOf-same : (a b : Option Text) (f g : Text → Option Text) → a ≡ b → ((id : Text) → f id ≡ g id) → (o : Option Settings)
     → IfSome o (AreOf a f) → IfSome o (AreOf b g)

@@ -14,8 +14,8 @@ use Rattle.words.specs.declared.settings.TheConstants.{RECENT_COMMITS}
 use Rattle.words.specs.declared.settings.Settings.{Settings}
 use Rattle.words.specs.declared.settings.Settings.TheVariants.{Run, Recover}
 
--- ---- the usage: `pdt run TABLE SCRIPT [--threads] [--store DIR] [--journal] [--recent N] [--limit N] [--conflicts column|row]`,
--- `pdt recover DIR [--table NAME]`
+-- ---- the usage: `pdt run TABLE SCRIPT [--threads] [--store DIR] [--journal] [--recent N] [--limit N] [--conflicts column|row] [--explain]`,
+-- `pdt recover DIR [--table NAME] [--explain]`
 
 -- a word that has to be there, by its place
 abbrev pub placed_rule : Text → Rule
@@ -49,11 +49,13 @@ run_usage =
     let stored = with_rule threaded (folder_option_rule (codes "store")) in
     let logged = with_rule stored (flag_rule (codes "journal")) in
     let counted = with_rule (with_rule logged (number_rule (codes "recent") MAX_RECENT_COMMITS)) (number_rule (codes "limit") MAX_ROWS) in
-    with_rule counted (option_rule (codes "conflicts"))
+    with_rule (with_rule counted (option_rule (codes "conflicts"))) (flag_rule (codes "explain"))
 
 -- `recover`, whose word is the folder of a store or a database
 abbrev pub recover_usage : App
-recover_usage = with_rule (with_rule (new_app (codes "recover")) (folder_rule (codes "dir"))) (option_rule (codes "table"))
+recover_usage =
+    let named = with_rule (with_rule (new_app (codes "recover")) (folder_rule (codes "dir"))) (option_rule (codes "table")) in
+    with_rule named (flag_rule (codes "explain"))
 
 -- the program, of which one of the two commands is asked for
 abbrev pub usage : App
@@ -98,16 +100,17 @@ IsRuleOf (Some word) ByRow = word ≡ codes "row"
 
 -- the settings are of the command, and of the words for each of its arguments
 abbrev pub AreOf : Option Text → (Text → Option Text) → Settings → Type 0
-AreOf command word_of (Recover dir table) =
+AreOf command word_of (Recover dir table explain) =
     (command ≡ Some (codes "recover"))
     × (word_of (codes "dir") ≡ Some dir.now) × (word_of (codes "table") ≡ option_map (λ w. w.now) table)
-AreOf command word_of (Run table script threads store journal recent limit conflicts) =
+    × (word_of (codes "explain") ≡ Some (flag_word explain))
+AreOf command word_of (Run table script threads store journal recent limit conflicts explain) =
     (command ≡ Some (codes "run"))
     × (word_of (codes "table") ≡ Some table.now) × (word_of (codes "script") ≡ Some script.now)
     × (word_of (codes "threads") ≡ Some (flag_word threads)) × (word_of (codes "store") ≡ option_map (λ w. w.now) store)
     × (word_of (codes "journal") ≡ Some (flag_word journal))
     × IsNumberOf RECENT_COMMITS (word_of (codes "recent")) recent × IsNumberOf MAX_ROWS (word_of (codes "limit")) limit
-    × IsRuleOf (word_of (codes "conflicts")) conflicts
+    × IsRuleOf (word_of (codes "conflicts")) conflicts × (word_of (codes "explain") ≡ Some (flag_word explain))
 
 -- a word names a folder, as the empty one does not
 abbrev pub NamesFolder : Text → Type 0
@@ -119,8 +122,8 @@ HasPlace journal stored threads = journal ≡ true → (stored ≡ true) × (thr
 
 -- the numbers are within their limits, a folder has a name, and a journal has a place
 abbrev pub IsWithinLimits : Settings → Type 0
-IsWithinLimits (Recover dir table) = NamesFolder dir.now
-IsWithinLimits (Run table script threads store journal recent limit conflicts) =
+IsWithinLimits (Recover dir table explain) = NamesFolder dir.now
+IsWithinLimits (Run table script threads store journal recent limit conflicts explain) =
     (1 ≤ recent) × (recent ≤ MAX_RECENT_COMMITS) × (1 ≤ limit) × (limit ≤ MAX_ROWS) × IfSome store (λ dir. NamesFolder dir.now)
     × HasPlace journal (is_some store) threads
 

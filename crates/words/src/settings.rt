@@ -38,6 +38,8 @@ pub enum Settings<'a> {
         limit: u64,
         /// Which modifies of one row conflict; those of one column where nothing is said.
         conflicts: ConflictRule,
+        /// Whether what is refused is explained by a sentence.
+        explain: bool,
     },
     /// Prints the table that a store has, or one of a database.
     Recover {
@@ -45,6 +47,8 @@ pub enum Settings<'a> {
         dir: &'a str,
         /// The table's name in a database; none where nothing is said.
         table: Option<&'a str>,
+        /// Whether what is refused is explained by a sentence.
+        explain: bool,
     },
 }
 
@@ -53,9 +57,9 @@ pub enum Settings<'a> {
 /// # Errors
 ///
 /// `clap`'s error, with its text, where the words are not of the usage
-/// `pdt run TABLE SCRIPT [--threads] [--store DIR] [--journal] [--recent N] [--limit N] [--conflicts column|row]` or
-/// `pdt recover DIR [--table NAME]`, where a DIR is empty, where an N is out of its range, where a journal is asked for without a
-/// store or with threads, where help is asked for, and where a growth is refused.
+/// `pdt run TABLE SCRIPT [--threads] [--store DIR] [--journal] [--recent N] [--limit N] [--conflicts column|row] [--explain]` or
+/// `pdt recover DIR [--table NAME] [--explain]`, where a DIR is empty, where an N is out of its range, where a journal is asked for
+/// without a store or with threads, where help is asked for, and where a growth is refused.
 pub fn read_words<'a>(alloc: Global, words: &'a [&'a str]) -> Result<Settings<'a>, Error>
     ensures said { IfOk result (AreOf (command_for (map (λ word. word.now) words.now)) (word_for (map (λ word. word.now) words.now))) }
     ensures within { IfOk result (λ settings. IsWithinLimits settings) }
@@ -118,6 +122,7 @@ fn run_settings<'a>(run: &ArgMatches<'a>) -> Option<Settings<'a>>
     let recent = count_in(run.get_str("recent"), RECENT_COMMITS, most)? as usize;
     let limit = count_in(run.get_str("limit"), MAX_ROWS, MAX_ROWS)?;
     let conflicts = rule_in(run.get_str("conflicts"))?;
+    let explain = flag_in(run.get_str("explain"))?;
     Some(Settings::Run {
         table,
         script,
@@ -127,6 +132,7 @@ fn run_settings<'a>(run: &ArgMatches<'a>) -> Option<Settings<'a>>
         recent,
         limit,
         conflicts,
+        explain,
     })
 }
 
@@ -139,7 +145,12 @@ fn recover_settings<'a>(recover: &ArgMatches<'a>) -> Option<Settings<'a>>
 {
     let dir = named(recover.get_str("dir")?)?;
     let table = recover.get_str("table");
-    Some(Settings::Recover { dir, table })
+    let explain = flag_in(recover.get_str("explain"))?;
+    Some(Settings::Recover {
+        dir,
+        table,
+        explain,
+    })
 }
 
 /// The folder that a word names; none where it is empty.

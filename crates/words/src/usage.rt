@@ -42,6 +42,8 @@ const LIMIT_HELP: &str = "The most rows that the table may have, 1 to 2147483647
 const CONFLICTS_HELP: &str =
     "Which modifies of one row conflict: column, those of one column, or row, all";
 
+const EXPLAIN_HELP: &str = "Explains what is refused by a sentence, in a second line";
+
 /// The command line that the program has.
 pub(crate) fn program<'a>(alloc: Global) -> Result<Command<'a>, AllocError>
     ensures { IfOk result (λ command. app_of command ≡ usage) }
@@ -66,7 +68,8 @@ fn run_command<'a>(alloc: Global) -> Result<Command<'a>, AllocError>
         .arg(flag(alloc, "journal", JOURNAL_HELP))?
         .arg(number(alloc, "recent", RECENT_HELP, MAX_RECENT_COMMITS as u64))?
         .arg(number(alloc, "limit", LIMIT_HELP, MAX_ROWS))?
-        .arg(option(alloc, "conflicts", "RULE", CONFLICTS_HELP))
+        .arg(option(alloc, "conflicts", "RULE", CONFLICTS_HELP))?
+        .arg(flag(alloc, "explain", EXPLAIN_HELP))
 }
 
 /// The command that prints the table of a store, or one of a database.
@@ -76,7 +79,8 @@ fn recover_command<'a>(alloc: Global) -> Result<Command<'a>, AllocError>
     Command::new(alloc, "recover")
         .about(RECOVER_ABOUT)
         .arg(folder(alloc, "dir", "DIR", DIR_HELP))?
-        .arg(option(alloc, "table", "NAME", NAME_HELP))
+        .arg(option(alloc, "table", "NAME", NAME_HELP))?
+        .arg(flag(alloc, "explain", EXPLAIN_HELP))
 }
 
 /// A word that has to be there, by its place.

@@ -75,7 +75,7 @@ pub extern "C" fn pdtr_mark(alloc: Global, txn: &mut Transaction, level: &mut us
 }
 
 /// Goes back to the mark of a level: the writes after it are undone and leave no record, and the marks after it are gone.
-/// Takes no memory: it is refused only where a tree has 2^64 owners.
+/// Takes no memory: it is refused only where a tree has 2^63 - 1 owners.
 #[unsafe(no_mangle)]
 pub extern "C" fn pdtr_back_to(alloc: Global, txn: &mut Transaction, level: usize) -> u32
     requires { IsSome txn.old.value }

@@ -1,5 +1,5 @@
 //! Opening a manager: over a table's text, or over the columns that a checkpoint stored.
-ghost use Rattle.std.specs.Prelude.{◌≡◌, ◌≢◌, ℕ, List, Ok, IfOk, IfSome, IsSome, Some, None, length, map};
+ghost use Rattle.std.specs.Prelude.{◌≡◌, ◌≢◌, ℕ, List, Ok, IfOk, IfSome, IsSome, Some, None, [], length, map};
 ghost use Rattle.values.specs.declared.row.Row.{Row};
 ghost use Rattle.values.specs.Shape as shape;
 ghost use Rattle.stable.specs.Stable.{Stable};
@@ -8,12 +8,12 @@ ghost use Rattle.inputs.specs.declared.fault.TableFault.{TableFault as Fault};
 ghost use Rattle.devices.specs.Stored as stored;
 ghost use Rattle.manager.specs.Managed.{Managed};
 ghost use Rattle.pdt_c.specs.Opening.{opened_counting, rule_of, IsOpenedOn, IsRecoveredOn};
-ghost use Rattle.pdt_c.specs.TextFaults.{told_of};
+ghost use Rattle.pdt_c.specs.TextFaults.{Explains, told_of};
 ghost use Rattle.pdt_c.specs.declared.codes.TheConstants.{BAD_TABLE, DONE, NOT_ASCENDING, SHAPE};
 
 use crate::codes::{DONE, NO_MEMORY, code_of_opening, code_of_reading, code_of_table};
 use crate::handles::store::{Store, put, take};
-use crate::text_fault::{TextFault, tell};
+use crate::text_fault::{TextFault, explain, tell};
 use devices::read_store;
 use inputs::load_table;
 use manager::Manager;
@@ -32,7 +32,8 @@ pub(crate) fn rule_of(by_row: bool) -> ConflictRule
     }
 }
 
-/// Opens a manager over the table of a text, into a handle that holds nothing. At `BAD_TABLE` the fault says why and where.
+/// Opens a manager over the table of a text, into a handle that holds nothing. At `BAD_TABLE` the fault says why and where, and a sentence
+/// of so many bytes explains it, which is put where there is room; it has none where a growth was refused.
 #[unsafe(no_mangle)]
 pub extern "C" fn pdtr_open(
     alloc: Global,
@@ -41,6 +42,8 @@ pub extern "C" fn pdtr_open(
     row_limit: u64,
     by_row: bool,
     fault: &mut TextFault,
+    sentence: &mut [u8],
+    said: &mut usize,
     store: &mut Store,
 ) -> u32
     // It is the text's table that is opened, under these limits and this rule.
@@ -48,12 +51,16 @@ pub extern "C" fn pdtr_open(
     ensures held { result ≡ DONE → IsSome store.new.value }
     ensures refused { result ≢ DONE → store.new.value ≡ store.old.value }
 
-    // What is told is the first fault of the text.
-    ensures bad { result ≡ BAD_TABLE → (first : Fault) × IsFaultOf text.now first × (fault.new ≡ told_of first) }
+    // What is told is the first fault of the text, and so is what the sentence explains.
+    ensures bad { result ≡ BAD_TABLE → (first : Fault) × IsFaultOf text.now first × (fault.new ≡ told_of first)
+        × Explains text.now [] first said.new sentence.new }
 {
     match load_table(alloc, text) {
         Ok(table) => open_over(alloc, table, recent, row_limit, by_row, store),
-        Err(first) => tell(first, fault),
+        Err(first) => {
+            *said = explain(alloc, text, &[], first, sentence);
+            tell(first, fault)
+        }
     }
 }
 

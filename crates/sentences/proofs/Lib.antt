@@ -1,0 +1,4 @@
+mod QuotingLemmas
+mod KeyLemmas
+mod RecordLemmas
+mod WorkedSentences
