@@ -14,7 +14,7 @@ int main(void) {
   if (!code) code = pdt_set(txn, &bob, NULL, 0, 2, 7, NULL);
   if (!code) code = pdt_insert(txn, row, "Cid", 3);
   if (!code) code = pdt_commit(txn, NULL); else pdt_abort(txn);
-  if (code) return fprintf(stderr, "%s\n", pdt_code_text(code)), 1;
+  if (code) return fprintf(stderr, "%s\n", pdt_errmsg(code)), 1;
   if (pdt_begin(table, &txn)) return 1;
   size_t count = 8;
   pdt_ints(txn, 2, 0, qty, &count);

@@ -22,8 +22,9 @@
  * position is valid until the transaction writes. Calls take half-open ranges: `from` up to, not
  * including, `to`.
  *
- * **Errors.** A call that can fail returns a ::pdt_code, and ::PDT_OK is 0. Unless a call says
- * otherwise, nothing has changed after any other code. The contents of the caller's buffers are
+ * **Errors.** A call that can fail returns a ::pdt_code, and ::PDT_OK is 0. pdt_errmsg() has a
+ * sentence with the column, the value and the key. Unless a call says otherwise, nothing has changed
+ * after any other code. The contents of the caller's buffers are
  * unspecified after any code but ::PDT_OK. ::PDT_MISUSE reports what the library can see of a wrong
  * call: a null pointer, a table that is closed while transactions are open, a call from a thread
  * that holds a prepared commit. No call aborts the process.
@@ -50,8 +51,9 @@
  * **Memory.** All memory comes from malloc(). If malloc() refuses memory, a call returns
  * ::PDT_NOMEM, and the table and the transaction are unchanged. Results go into buffers that the
  * caller owns and that overlap no other argument. Only pdt_int_spans(), pdt_texts(),
- * pdt_column_name() and pdt_declared() return addresses in the library's memory; each says how long
- * they are valid.
+ * pdt_column_name(), pdt_declared() and pdt_errmsg() return addresses in the library's memory; each
+ * says how long they are valid. The sentence of pdt_errmsg() takes two kilobytes of each thread that
+ * was refused something; if malloc() refuses them, the thread has the sentences of pdt_code_text().
  *
  * A table retains the newest version, the versions of pins and open transactions, and the changes
  * of the last pdt_options::recent commits. It doesn't grow with the number of commits.
@@ -160,6 +162,22 @@ typedef enum pdt_code {
  * @return a constant string, never null; "no such code" for other numbers
  */
 const char *pdt_code_text(int code);
+
+/**
+ * A sentence for the code that this thread's last call returned, in English.
+ *
+ * It names the column, the value, the type that is wanted and the key, as far as that call knows
+ * them: `a row with the key id=7 exists`, `column "name": the text is not UTF-8`. Else it is that of
+ * pdt_code_text(). Names and texts are in quotes, with control characters escaped, and cut after 64
+ * characters. It has at most 399 bytes. It is for people: programs compare codes.
+ *
+ * Each thread has its own. The table and the transaction may have ended. Leaves `errno` as it is.
+ *
+ * @param code  the code that the call returned
+ * @return the sentence, valid until this thread's next call other than pdt_abort(),
+ *         pdt_dbtxn_abort() and pdt_close(); never null
+ */
+const char *pdt_errmsg(pdt_code code);
 
 /** @} */
 
@@ -285,6 +303,61 @@ typedef struct pdt_fault {
  *                            aren't valid
  */
 pdt_code pdt_open_csv(const void *csv, size_t bytes, const pdt_options *options, pdt_fault *fault, pdt_table **table);
+
+/**
+ * How a plain CSV text is read: one whose header names columns and no types. A null pointer, or zeros
+ * in all members but the size, select the defaults.
+ */
+typedef struct pdt_plain {
+  size_t size;            /**< `sizeof(pdt_plain)`, also of an earlier or a later header; members that the library lacks must be 0 */
+  const char *const *key; /**< the names of the key's columns, in the order of the key; null if there are none */
+  size_t key_count;       /**< how many names there are; 0: the first column is the key */
+  size_t sample;          /**< how many of the first records show the types; 0: 1,000 */
+} pdt_plain;
+
+/**
+ * Whether the header of a CSV text names types: whether a cell of its first record has a colon.
+ *
+ * pdt_open_csv() reads such a text, and pdt_open_plain() others.
+ *
+ * @param csv        the text; may be null if `bytes` is 0
+ * @param bytes      its length in bytes
+ * @param[out] has   whether it names types; false for an empty text
+ * @retval PDT_OK      `has` is written
+ * @retval PDT_NOMEM   out of memory
+ * @retval PDT_MISUSE  `has` is null, or `csv` is null though `bytes` isn't 0
+ */
+pdt_code pdt_csv_has_types(const void *csv, size_t bytes, bool *has);
+
+/**
+ * Opens a table over a plain CSV text, and finds the types of its columns.
+ *
+ * The first record names the columns, as `id,name,new`. A column is of ::PDT_INT or ::PDT_BOOL if each
+ * of its cells in the first pdt_plain::sample records is an integer of 64 bits, or `true` or `false`;
+ * else it is of ::PDT_TEXT. A later cell that isn't of the column's type is a fault: name the types in
+ * the header, or sample more records. An empty cell is a text. The columns of the key come first in
+ * the table; the others follow in the order of the text. The records may be in any order.
+ *
+ * Faults are found in this order: the header; the names of the key, from the last; then record by
+ * record the number of cells and each cell from the left; then equal keys.
+ *
+ * @param csv         the text, in UTF-8; may be null if `bytes` is 0
+ * @param bytes       its length in bytes
+ * @param plain       the key and the sample, or null for the defaults
+ * @param options     limits, or null for the defaults
+ * @param[out] fault  may be null; written at ::PDT_BAD_TABLE only. The column counts in the text; for a
+ *                    name that no column has it is the name's index in the key
+ * @param[out] table  the table; null after any other code than ::PDT_OK
+ * @retval PDT_OK             the table is open
+ * @retval PDT_BAD_TABLE      the text isn't a table, or no column has a name of the key: see `fault`
+ * @retval PDT_TOO_MANY_ROWS  it has more rows than pdt_options::row_limit
+ * @retval PDT_BAD_LIMIT      an option is outside its range
+ * @retval PDT_NOMEM          out of memory
+ * @retval PDT_MISUSE         `table` or a name is null, `csv` is null though `bytes` isn't 0, `plain` or
+ *                            the options aren't valid
+ */
+pdt_code pdt_open_plain(const void *csv, size_t bytes, const pdt_plain *plain, const pdt_options *options, pdt_fault *fault,
+                        pdt_table **table);
 
 /** A column in the caller's memory. */
 typedef struct pdt_column {
@@ -1619,6 +1692,38 @@ pdt_code pdt_table_create(pdt_database *database, const char *name, const pdt_co
  */
 pdt_code pdt_table_create_csv(pdt_database *database, const char *name, const void *csv, size_t bytes, const pdt_options *options,
                               pdt_fault *fault, pdt_table **table);
+
+/**
+ * Creates a table over a plain CSV text, as pdt_open_plain() does. A header alone creates an empty
+ * table of texts.
+ *
+ * Like pdt_table_create().
+ *
+ * @param database    a database
+ * @param name        1 to 64 bytes of UTF-8 and a zero byte; no byte below 32, and not 127
+ * @param csv         the text, in UTF-8; may be null if `bytes` is 0
+ * @param bytes       its length in bytes
+ * @param plain       the key and the sample, or null for the defaults
+ * @param options     limits, or null for the defaults
+ * @param[out] fault  may be null; written at ::PDT_BAD_TABLE only, as by pdt_open_plain()
+ * @param[out] table  the table; null after any other code than ::PDT_OK
+ * @retval PDT_OK             the table is durable
+ * @retval PDT_EXISTS         a table of this name exists
+ * @retval PDT_TYPE_MISMATCH  the name isn't valid
+ * @retval PDT_BAD_TABLE      the text isn't a table, or no column has a name of the key: see `fault`
+ * @retval PDT_TOO_MANY_ROWS  more rows than pdt_options::row_limit
+ * @retval PDT_BAD_LIMIT      an option is outside its range
+ * @retval PDT_FULL           the database has no table number left
+ * @retval PDT_IO             a file can't be written or synced; `errno` has the cause
+ * @retval PDT_WRITES_FAILED  an earlier write failed
+ * @retval PDT_INCOMPLETE     as of pdt_maintain()
+ * @retval PDT_READONLY       the database is open read-only
+ * @retval PDT_NOMEM          out of memory
+ * @retval PDT_MISUSE         a pointer is null, `plain` or the options aren't valid, this thread holds a
+ *                            prepared commit, or this process is a child of fork()
+ */
+pdt_code pdt_table_create_plain(pdt_database *database, const char *name, const void *csv, size_t bytes, const pdt_plain *plain,
+                                const pdt_options *options, pdt_fault *fault, pdt_table **table);
 
 /**
  * Finds a table by its name.

@@ -89,8 +89,14 @@ typedef struct {
   pdt_arrow_fault *fault;
 } pdti_gathering;
 
-/* Fills a fault, which may be null, with a place and a sentence, and answers the code. */
+/* Keeps a sentence for a code, and fills a fault, which may be null, with it and a place. Answers the code. */
 int pdti_tell(pdt_arrow_fault *fault, int code, uint64_t row, uint64_t column, const char *form, ...) __attribute__((format(printf, 5, 6)));
+
+/* Fills a fault, which may be null, with a place and the sentence that is kept for a code, which it answers. */
+int pdti_tell_kept(pdt_arrow_fault *fault, int code, uint64_t row, uint64_t column);
+
+/* What is said of a cell that is a null and may not be. */
+extern const char pdti_no_null[];
 
 /* Tells a cell of the batch that comes next, by its row there. */
 int pdti_tell_cell(const pdti_gathering *all, size_t at, uint64_t row, const char *what);

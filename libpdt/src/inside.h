@@ -13,6 +13,7 @@
 
 #include <errno.h>
 #include <pthread.h>
+#include <stdarg.h>
 #include <stdatomic.h>
 #include <stdlib.h>
 #include <string.h>
@@ -64,10 +65,33 @@ typedef struct {
   uint64_t number, place;
 } pdti_marked_image;
 
-extern uint32_t pdtr_open(const uint8_t *, size_t, size_t, uint64_t, bool, pdti_text_fault *, pdti_handle *);
+/* what a manifest says of the database, of a table beside its name, and of a file */
+typedef struct {
+  uint64_t store, salt, commit, first_file, next_folder;
+  uint32_t next_table;
+} pdti_manifest_head;
+typedef struct {
+  uint64_t commit, folder, recent, limit, width;
+  uint32_t number;
+  bool by_row;
+} pdti_manifest_line;
+typedef struct {
+  uint64_t size;
+  uint32_t check;
+} pdti_manifest_mark;
+
+extern uint32_t pdtr_open(const uint8_t *, size_t, size_t, uint64_t, bool, pdti_text_fault *, uint8_t *, size_t, size_t *, pdti_handle *);
+extern uint32_t pdtr_has_types(const uint8_t *, size_t, bool *);
+extern uint32_t pdtr_open_plain(const uint8_t *, size_t, const pdti_slice *, size_t, size_t, size_t, uint64_t, bool, pdti_text_fault *,
+                                uint8_t *, size_t, size_t *, pdti_handle *);
 extern uint32_t pdtr_open_columns(const uint8_t *, size_t, size_t, const pdti_numbers *, size_t, const pdti_offsets *, size_t,
                                   const pdti_slice *, size_t, size_t, uint64_t, bool, pdt_place *, pdti_handle *);
 extern uint32_t pdtr_recover(const uint8_t *, size_t, const pdti_slice *, size_t, size_t, uint64_t, bool, uint32_t *, pdti_handle *);
+extern uint32_t pdtr_manifest_read(const uint8_t *, size_t, pdti_handle *);
+extern size_t pdtr_manifest_head(pdti_handle *, pdti_manifest_head *);
+extern size_t pdtr_manifest_table(pdti_handle *, size_t, pdti_manifest_line *, uint8_t *, size_t);
+extern uint32_t pdtr_manifest_mark(pdti_handle *, size_t, size_t, pdti_manifest_mark *);
+extern void pdtr_manifest_close(pdti_handle *);
 extern void pdtr_close(pdti_handle *);
 extern size_t pdtr_width(pdti_handle *);
 extern size_t pdtr_key_columns(pdti_handle *);
@@ -371,6 +395,79 @@ int pdti_take_struct(void *into, size_t room, const void *given, size_t least);
 /* Whether a caller's struct may be filled; and fills as much of it as it has room for, with zeros behind what this version knows. */
 int pdti_may_fill(const void *to, size_t least);
 void pdti_fill_struct(void *to, const void *from, size_t room);
+
+/* ---- messages.c: the sentence for the last code that a thread was returned. Each call that returns a code which some call explains either
+   keeps a sentence for it, or none by pdti_plain: else pdt_errmsg would give that of an earlier call. These answer the code. */
+
+/* Keeps none for a code other than PDT_OK. */
+int pdti_plain(int code);
+
+/* Keeps one: that which is passed, or one by printf's form. */
+int pdti_keep_sentence(int code, const char *sentence, size_t bytes);
+int pdti_say(int code, const char *form, ...) __attribute__((format(printf, 2, 3)));
+int pdti_say_words(int code, const char *form, va_list words) __attribute__((format(printf, 2, 0)));
+
+/* What is said of a key: that its row exists, that none does, or that an earlier row has it. */
+enum pdti_key_words { PDTI_EXISTS, PDTI_NO_ROW, PDTI_EARLIER };
+
+/* A cell that a sentence shows. */
+typedef struct {
+  const char *name, *text;
+  size_t name_bytes, bytes;
+  int64_t number;
+  int type;
+  bool is_cut; /* the text goes on */
+} pdti_said_cell;
+
+/* Keeps one with a key: by copies of it, since the table may be closed before it is asked for; or spelled at once. */
+int pdti_keep_key(int code, enum pdti_key_words words, const pdt_table *table, const int64_t *numbers, const void *texts);
+int pdti_say_key(int code, enum pdti_key_words words, const pdti_said_cell *key, size_t cells);
+/* Keeps that a row's key isn't above that of the row before it. */
+int pdti_say_order(uint64_t row, const pdti_said_cell *key, const pdti_said_cell *before, size_t cells);
+
+/* A name in quotes, the beginning of a sentence about a cell, and a number with commas. */
+typedef struct {
+  char text[272];
+} pdti_quoted;
+typedef struct {
+  char text[320];
+} pdti_where;
+typedef struct {
+  char text[32];
+} pdti_grouped;
+const char *pdti_quote(pdti_quoted *into, const char *text, size_t bytes);
+const char *pdti_where_of(pdti_where *into, const char *name, size_t bytes);
+const char *pdti_group(pdti_grouped *into, uint64_t number);
+
+/* ---- refusals.c: sentences for what the exports have refused */
+
+/* The options of an opening; other codes than PDT_BAD_LIMIT and PDT_TOO_MANY_ROWS have no sentence. */
+int pdti_refuse_options(int code, const pdt_options *options);
+/* A column that a table hasn't. */
+int pdti_refuse_column(const pdt_table *table, size_t column);
+/* The cells of a row or of a key, of a code that may be PDT_TYPE_MISMATCH. */
+int pdti_refuse_cells(int code, const pdt_table *table, const int64_t *numbers, size_t count, const void *texts, size_t bytes);
+/* A set: its key, and the cell, whose text may be null. */
+typedef struct {
+  const int64_t *key;
+  const void *texts;
+  size_t bytes;
+  size_t column;
+  int64_t number;
+  const void *text;
+} pdti_set_cell;
+int pdti_refuse_set(const pdt_table *table, const pdti_set_cell *set);
+/* A read or a write of the row of a key: what refuses the key, or that there is no row. */
+int pdti_refuse_key(int code, const pdt_table *table, const int64_t *key, const void *texts, size_t bytes);
+/* A text that is too long, of a cell. */
+int pdti_refuse_length(const char *where, uint64_t bytes);
+/* The names, the types and the key of columns; a value at a place; a value in memory, or PDT_OK where it is one; a row whose key isn't above
+   that of the row before it; and one whose key an earlier row has. */
+int pdti_refuse_headings(const pdt_column *columns, size_t count, size_t key);
+int pdti_refuse_value(const pdt_column *columns, const pdt_place *place);
+int pdti_find_value(const pdt_column *column, uint64_t row, const char *where);
+int pdti_refuse_order(const pdt_column *columns, size_t key, uint64_t row);
+int pdti_refuse_second(const pdt_column *columns, size_t key, uint64_t row);
 
 /* ---- opening */
 

@@ -449,10 +449,10 @@ static void texts_come_in(void) {
   is("a dictionary", PDT_OK, opens(&in, &fault, &table));
   has_texts("a dictionary", table, "\xc3\xa4||bc|\xc3\xa4|\xc3\xa4||");
   dictionary->length = 2;
-  refused("an index outside", &in, PDT_TYPE_MISMATCH, 0, 1, "column v has an index outside its dictionary");
+  refused("an index outside", &in, PDT_TYPE_MISMATCH, 0, 1, "column \"v\": the index is outside its dictionary");
   dictionary->length = 3;
   in.dictionary_buffers[1][0] = "\x0d";
-  refused("a null in a dictionary", &in, PDT_TYPE_MISMATCH, 1, 1, "column v has a null");
+  refused("a null in a dictionary", &in, PDT_TYPE_MISMATCH, 1, 1, "column \"v\": a null isn't allowed");
   dictionary->null_count = 1;
   in.dictionary_buffers[1][0] = NULL;
   refused("nulls of a dictionary that lie nowhere", &in, PDT_TYPE_MISMATCH, 0, 1, "a dictionary that can't be");
@@ -491,7 +491,7 @@ static void booleans_and_batches_come_in(void) {
   is("batches in another order", PDT_OK, opens(&in, &fault, &table));
   if (table) has("batches in another order", table, (int64_t[]){3, 2, 4, 1, 5, 0, 9}, 7);
   in.buffers[2][0][1] = parts + 1;
-  refused("a key twice", &in, PDT_DUPLICATE, 6, 0, "the key is that of an earlier row");
+  refused("a key twice", &in, PDT_DUPLICATE, 6, 0, "the key id=3 is that of an earlier row");
   in.fails_at = 1;
   in.why = EIO;
   refused("a producer that fails", &in, PDT_DEVICE_FAILED, 6, 0, "made to fail");
@@ -511,8 +511,8 @@ static void keys_are_looked_for(void) {
     int code;
     const char *cause;
   } cases[] = {
-      {"a key that isn't there", {"x"}, 1, PDT_BAD_TABLE, "no column x"},
-      {"a key twice", {"id", "id"}, 2, PDT_BAD_TABLE, "names column id twice"},
+      {"a key that isn't there", {"x"}, 1, PDT_BAD_TABLE, "no column \"x\""},
+      {"a key twice", {"id", "id"}, 2, PDT_BAD_TABLE, "names column \"id\" twice"},
       {"no key", {"id"}, 0, PDT_BAD_TABLE, "the key has no column"},
       {"a long key", {"id", "id", "id"}, 3, PDT_BAD_TABLE, "more than there are"},
       {"a null name", {NULL}, 1, PDT_MISUSE, ""},
@@ -588,7 +588,7 @@ static void schemas_lie(void) {
     refused("a name", &in, PDT_BAD_TABLE, 0, 1, "column 1 has no name of 1 to 64 bytes");
   }
   in.fields[1].name = "id";
-  refused("a name twice", &in, PDT_BAD_TABLE, 0, 1, "two columns have the name id");
+  refused("a name twice", &in, PDT_BAD_TABLE, 0, 1, "two columns have the name \"id\"");
   in.fields[1].name = "v";
   in.schema.release = NULL;
   refused("a released schema", &in, PDT_TYPE_MISMATCH, 0, 0, "the stream has no schema");
@@ -611,7 +611,7 @@ static void batches_lie(void) {
   LIE("a length", batches[0].length, 2147483647, PDT_TYPE_MISMATCH, 0, 0, "fewer cells than its batch has rows");
   LIE("an offset", batches[0].offset, -1, PDT_TYPE_MISMATCH, 0, 0, "that can't be");
   LIE("an offset", batches[0].offset, INT64_MAX, PDT_TYPE_MISMATCH, 0, 0, "that can't be");
-  LIE("an offset", batches[0].offset, 1, PDT_TYPE_MISMATCH, 0, 0, "column id has fewer cells");
+  LIE("an offset", batches[0].offset, 1, PDT_TYPE_MISMATCH, 0, 0, "column \"id\" has fewer cells");
   LIE("nulls", batches[0].null_count, 7, PDT_TYPE_MISMATCH, 0, 0, "that can't be");
   LIE("nulls", batches[0].null_count, -2, PDT_TYPE_MISMATCH, 0, 0, "that can't be");
   LIE("nulls", batches[0].null_count, 1, PDT_TYPE_MISMATCH, 0, 0, "a batch counts nulls");
@@ -621,9 +621,9 @@ static void batches_lie(void) {
   LIE("columns", batches[0].children, NULL, PDT_TYPE_MISMATCH, 0, 0, "other columns than the schema");
   LIE("buffers", batches[0].n_buffers, 0, PDT_TYPE_MISMATCH, 0, 0, "the one buffer");
   LIE("buffers", batches[0].buffers, NULL, PDT_TYPE_MISMATCH, 0, 0, "the one buffer");
-  LIE("a column that isn't there", cells_at[0][1], NULL, PDT_TYPE_MISMATCH, 0, 1, "column v isn't in a batch");
-  LIE("a column that is released", cells[0][1].release, NULL, PDT_TYPE_MISMATCH, 0, 1, "column v isn't in a batch");
-  LIE("a column's length", cells[0][1].length, 5, PDT_TYPE_MISMATCH, 0, 1, "column v has fewer cells");
+  LIE("a column that isn't there", cells_at[0][1], NULL, PDT_TYPE_MISMATCH, 0, 1, "column \"v\" isn't in a batch");
+  LIE("a column that is released", cells[0][1].release, NULL, PDT_TYPE_MISMATCH, 0, 1, "column \"v\" isn't in a batch");
+  LIE("a column's length", cells[0][1].length, 5, PDT_TYPE_MISMATCH, 0, 1, "column \"v\" has fewer cells");
   LIE("a column's length", cells[0][1].length, -6, PDT_TYPE_MISMATCH, 0, 1, "that can't be");
   LIE("a column's offset", cells[0][1].offset, INT64_MAX, PDT_TYPE_MISMATCH, 0, 1, "that can't be");
   LIE("a column's offset", cells[0][1].offset, -1, PDT_TYPE_MISMATCH, 0, 1, "that can't be");
@@ -634,7 +634,7 @@ static void batches_lie(void) {
   LIE("a column's cells", buffers[0][1][1], NULL, PDT_TYPE_MISMATCH, 0, 1, "the buffers of its format");
   LIE("a column's children", cells[0][1].n_children, 1, PDT_TYPE_MISMATCH, 0, 1, "the buffers of its format");
   LIE("a column's dictionary", cells[0][1].dictionary, &in.dictionaries[0], PDT_TYPE_MISMATCH, 0, 1, "another dictionary");
-  LIE("a null", buffers[0][1][0], "\x2f", PDT_TYPE_MISMATCH, 4, 1, "column v has a null");
+  LIE("a null", buffers[0][1][0], "\x2f", PDT_TYPE_MISMATCH, 4, 1, "column \"v\": a null isn't allowed");
 #undef LIE
   of_format(&in, "l", 2, six, NULL);
   in.buffers[0][1][0] = "\x3f";
@@ -661,16 +661,16 @@ static void cells_lie(void) {
   };
   for (size_t i = 0; i < sizeof texts / sizeof *texts; i++) {
     of_format(&in, "u", 3, texts[i].ends, many);
-    refused(texts[i].what, &in, PDT_TYPE_MISMATCH, texts[i].row, 1, "a text that lies nowhere");
+    refused(texts[i].what, &in, PDT_TYPE_MISMATCH, texts[i].row, 1, "column \"v\": the text isn't within its buffer");
   }
   of_format(&in, "u", 3, ends, NULL);
-  refused("no bytes", &in, PDT_TYPE_MISMATCH, 0, 1, "a text that lies nowhere");
+  refused("no bytes", &in, PDT_TYPE_MISMATCH, 0, 1, "column \"v\": the text isn't within its buffer");
   of_format(&in, "u", 3, ends, "abc\xff\xffxxxx");
-  refused("no UTF-8", &in, PDT_TYPE_MISMATCH, 3, 1, "column v has a text that is no UTF-8");
+  refused("no UTF-8", &in, PDT_TYPE_MISMATCH, 3, 1, "column \"v\": the text is not UTF-8");
   of_format(&in, "L", 2, (uint64_t[]){0, 1, 2, 3, (uint64_t)INT64_MAX + 1, 5}, NULL);
-  refused("a large number", &in, PDT_TYPE_MISMATCH, 4, 1, "a number above 9,223,372,036,854,775,807");
+  refused("a large number", &in, PDT_TYPE_MISMATCH, 4, 1, "the number is above 9,223,372,036,854,775,807");
   of_format(&in, "d:38,0", 2, (int64_t[]){0, 0, 1, 0, 2, 1, 3, 0, 4, 0, 5, 0}, NULL);
-  refused("a large decimal", &in, PDT_TYPE_MISMATCH, 2, 1, "a decimal that 64 bits don't hold");
+  refused("a large decimal", &in, PDT_TYPE_MISMATCH, 2, 1, "64 bits don't hold the decimal");
   static const int32_t bad[][4] = {{-1, 0, 0, 0},  {13, 0, 2, 0}, {13, 0, -1, 0}, {13, 0, 0, 1},
                                    {13, 0, 0, -1}, {17, 0, 1, 0}, {4097, 0, 0, 0}};
   for (size_t i = 0; i < sizeof bad / sizeof *bad; i++) {
@@ -679,7 +679,7 @@ static void cells_lie(void) {
     struct ArrowArray *array = of_format(&in, "vu", 5, views, "thirteenbytes");
     array->buffers[3] = "16bytes_with_two";
     array->buffers[4] = sizes;
-    refused("a view", &in, PDT_TYPE_MISMATCH, 2, 1, "a text that lies nowhere");
+    refused("a view", &in, PDT_TYPE_MISMATCH, 2, 1, "column \"v\": the text isn't within its buffer");
   }
 }
 
@@ -750,22 +750,22 @@ static void rows_are_applied(void) {
   rows_to_apply(&in, fresh);
   in.fields[3].name = "key";
   is("no key", PDT_TYPE_MISMATCH, applies(txn, &in, PDT_APPLY_DELETE, &fault, &done));
-  says("no key", "column id of the table isn't there", fault.cause);
+  says("no key", "column \"id\" of the table isn't there", fault.cause);
   in.fields[3].name = "id";
   in.fields[2].name = "price";
   is("another column", PDT_TYPE_MISMATCH, applies(txn, &in, PDT_APPLY_UPSERT, &fault, &done));
   in.fields[2].name = "qty";
   source_column(&in, "price", "l");
   is("one column more", PDT_TYPE_MISMATCH, applies(txn, &in, PDT_APPLY_INSERT, &fault, &done));
-  says("one column more", "the table has no column price", fault.cause);
+  says("one column more", "the table has no column \"price\"", fault.cause);
   rows_to_apply(&in, fresh);
   in.fields[1].format = "l";
   is("another type", PDT_TYPE_MISMATCH, applies(txn, &in, PDT_APPLY_INSERT, &fault, &done));
-  says("another type", "column name has cells of another type", fault.cause);
+  says("another type", "column \"name\" is of type int, and type text is wanted", fault.cause);
   rows_to_apply(&in, (int64_t[]){-30, -31, -32, -33});
   in.buffers[1][1][2] = "\xff\xff\xff\xff\xff";
   is("no UTF-8", PDT_TYPE_MISMATCH, applies(txn, &in, PDT_APPLY_INSERT, &fault, &done));
-  says("no UTF-8", "column name has a text that is no UTF-8", fault.cause);
+  says("no UTF-8", "column \"name\": the text is not UTF-8", fault.cause);
   is("its row", 3, (long long)fault.place.row);
   is("its column", 1, (long long)fault.place.column);
   in.why = EIO;
@@ -849,7 +849,7 @@ static void columns_are_declared(void) {
   is("integers", PDT_OK, applies(txn, &in, PDT_APPLY_UPSERT, &fault, &done));
   of_format(&in, "tdm", 2, more, NULL);
   is("another unit", PDT_TYPE_MISMATCH, applies(txn, &in, PDT_APPLY_UPSERT, &fault, &done));
-  says("another unit", "column v is declared as tdD, and comes in as tdm", fault.cause);
+  says("another unit", "column \"v\" is declared as tdD, and comes in as tdm", fault.cause);
   of_format(&in, "l", 2, more, NULL);
   in.buffers[0][1][0] = "\x2f";
   is("a null", PDT_TYPE_MISMATCH, applies(txn, &in, PDT_APPLY_UPSERT, &fault, &done));
@@ -858,7 +858,7 @@ static void columns_are_declared(void) {
   static const int64_t least[] = {0, 1, INT64_MIN, 3, 4, 5};
   of_format(&in, "l", 2, least, NULL);
   is("the number of a null", PDT_TYPE_MISMATCH, applies(txn, &in, PDT_APPLY_UPSERT, &fault, &done));
-  says("the number of a null", "the number that stands for a null", fault.cause);
+  says("the number of a null", "the number is the one that stands for a null", fault.cause);
   is("its row", 2, (long long)fault.place.row);
   int64_t numbers[6];
   size_t got = 6;

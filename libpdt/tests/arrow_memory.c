@@ -119,6 +119,7 @@ static int run(void) {
 }
 
 int main(void) {
+  have_sentences();
   for (long n = 0;; n++) {
     long before = refused;
     left = n;

@@ -292,6 +292,13 @@ static void table_is(const char *what, pdt_table *other, const view *due) {
 
 /* ---- writes */
 
+/* The sentence of the last call, which names a key. */
+static void sentence_is(pdt_code code, const char *form, int key) {
+  char wanted[64];
+  snprintf(wanted, sizeof wanted, form, key);
+  is(wanted, 0, strcmp(wanted, D(pdt_errmsg, code)));
+}
+
 static row drawn_row(void) {
   row r = {.there = true, .ok = below(2), .len = below(TEXT), .qty = below(3) ? below(5) : (int64_t)bits()};
   for (int i = 0; i < r.len; i++) r.name[i] = (char)('a' + below(26));
@@ -302,6 +309,7 @@ static void insert(client *c) {
   row r = drawn_row(), *old = &c->now.rows[key];
   int wanted = old->there ? PDT_DUPLICATE : rows_of(&c->now) >= row_limit ? PDT_FULL : PDT_OK;
   answers("insert", wanted, D(pdt_insert, c->txn, (int64_t[]){key, r.len, r.ok, r.qty}, r.name, (size_t)r.len));
+  if (wanted == PDT_DUPLICATE) sentence_is(PDT_DUPLICATE, "a row with the key id=%d exists", key);
   if (wanted) return;
   *old = r;
   c->now.effects[key] = c->now.effects[key] == DELETE ? REPLACE : INSERT;
@@ -310,7 +318,7 @@ static void delete (client *c) {
   int key = below(KEYS);
   bool there = c->now.rows[key].there;
   answers("delete", there ? PDT_OK : PDT_MISSING, D(pdt_delete, c->txn, (int64_t[]){key}, NULL, 0));
-  if (!there) return;
+  if (!there) return sentence_is(PDT_MISSING, "no row has the key id=%d", key);
   memset(&c->now.rows[key], 0, sizeof(row));
   c->now.effects[key] = c->now.effects[key] == INSERT ? NONE : DELETE;
   c->now.columns[key] = 0;
@@ -322,6 +330,7 @@ static void set(client *c) {
   int64_t number = column < WIDTH ? number_of(&r, key, column) : 0;
   int wanted = !fits ? PDT_TYPE_MISMATCH : old->there ? PDT_OK : PDT_MISSING;
   answers("set", wanted, D(pdt_set, c->txn, (int64_t[]){key}, NULL, 0, (size_t)column, number, column == 1 ? r.name : NULL));
+  if (wanted == PDT_MISSING) sentence_is(PDT_MISSING, "no row has the key id=%d", key);
   if (wanted) return;
   if (column == 1) old->len = r.len, memcpy(old->name, r.name, TEXT);
   if (column == 2) old->ok = r.ok;
@@ -500,12 +509,40 @@ static void open_text(const pdt_options *options) {
     answers("open", PDT_OK, D(pdt_open, text, (size_t)len, options, &table));
     return;
   }
+  bool has = false;
+  answers("a header with types", PDT_OK, D(pdt_csv_has_types, text, (size_t)len, &has));
+  is("its types", true, has);
   pdt_fault fault = {{0, 0}, NULL};
   sprintf(text + len, "0,a,maybe,1\n");
   answers("a text with a fault", PDT_BAD_TABLE, D(pdt_open_csv, text, strlen(text), options, &fault, &table));
   is("its record", rows_of(&newest) + 2, (long long)fault.place.row);
   is("its column", 2, (long long)fault.place.column);
   answers("open", PDT_OK, D(pdt_open_csv, text, (size_t)len, options, &fault, &table));
+}
+/* Over a text without types, whose key stands elsewhere: two rows or more, since a name may be a word that is a boolean too. */
+static void open_plain(const pdt_options *options) {
+  static const char *const key[] = {"id"};
+  pdt_plain plain = {.size = sizeof plain, .key = key, .key_count = 1, .sample = below(2) ? 0 : KEYS};
+  char text[KEYS * 64 + 64];
+  int len = sprintf(text, "name,ok,id,qty\n");
+  for (int at = KEYS - 1; at >= 0; at--) {
+    const row *r = &newest.rows[at];
+    const char *boolean = r->ok ? "true" : "false";
+    if (r->there) len += sprintf(text + len, "%.*s,%s,%d,%lld\n", r->len, r->name, boolean, at, (long long)r->qty);
+  }
+  bool has = true;
+  answers("a header without types", PDT_OK, D(pdt_csv_has_types, text, (size_t)len, &has));
+  is("its types", false, has);
+  pdt_fault fault = {{0, 0}, NULL};
+  if (below(2)) {
+    sprintf(text + len, "a,maybe,0,1\n");
+    answers("a text with a fault", PDT_BAD_TABLE,
+            D(pdt_open_plain, text, strlen(text), &(pdt_plain){.size = sizeof plain, .key = key, .key_count = 1, .sample = 1}, options,
+              &fault, &table));
+    is("its record", rows_of(&newest) + 2, (long long)fault.place.row);
+    is("its column", 1, (long long)fault.place.column);
+  }
+  answers("open", PDT_OK, D(pdt_open_plain, text, (size_t)len, &plain, options, &fault, &table));
 }
 static void open_columns(const pdt_options *options) {
   int64_t ids[KEYS], qty[KEYS];
@@ -649,7 +686,8 @@ static void reopen(void) {
   if (way == 3) answers("checkpoint to", PDT_OK, D(pdt_checkpoint_to, table, take, NULL, NULL));
   answers("close", PDT_OK, D(pdt_close, table));
   pdt_options options = drawn_options();
-  if (way == 0) open_text(&options);
+  if (way == 0 && rows_of(&newest) > 1 && below(2)) open_plain(&options);
+  else if (way == 0) open_text(&options);
   if (way == 1) open_columns(&options);
   if (way == 2) recover_files(&options, &table);
   if (way == 3) recover_bytes(&options, &table);
@@ -669,6 +707,7 @@ static void columns(void) {
   is("name", 0, column < WIDTH ? strcmp(heads[column], name) : name != NULL);
   is("the version", 0, strcmp(PDT_VERSION, D(pdt_version)));
   answers("a sentence", code < 0 || code > PDT_READONLY, strcmp("no such code", D(pdt_code_text, code)) == 0);
+  answers("a sentence", code < 0 || code > PDT_READONLY, strcmp("no such code", D(pdt_errmsg, (pdt_code)code)) == 0);
 }
 static void maintenance(void) {
   switch (below(9)) {

@@ -249,6 +249,15 @@ static bool is_used(int slot) {
     if (loners[i].txn && loners[i].slot == slot) return true;
   return false;
 }
+/* Over a plain text, whose key comes last. */
+static int create_plain(int slot, const int64_t *ids, const int64_t *qty, int64_t rows, const pdt_options *options, pdt_table **table) {
+  static char text[64 * KEYS];
+  static const char *const key[] = {"id"};
+  pdt_plain plain = {.size = sizeof plain, .key = key, .key_count = 1, .sample = (size_t)(1 + below(3))};
+  size_t len = (size_t)sprintf(text, "qty,id\n");
+  for (int64_t i = rows - 1; i >= 0; i--) len += (size_t)sprintf(text + len, "%lld,%lld\n", (long long)qty[i], (long long)ids[i]);
+  return D(pdt_table_create_plain, database, called[slot], text, len, &plain, options, NULL, table);
+}
 static void create(int slot) {
   static int lives;
   static const pdt_options options = {.size = sizeof options, .recent = RECENT};
@@ -259,8 +268,10 @@ static void create(int slot) {
   pdt_column columns[] = {{"id", PDT_INT, (uint64_t)rows, ids, NULL, NULL, 0}, {"qty", PDT_INT, (uint64_t)rows, qty, NULL, NULL, 0}};
   bool is_empty = below(2);
   static const char csv[] = "id:int:key,qty:int\n";
-  int code = is_empty ? D(pdt_table_create_csv, database, called[slot], csv, sizeof csv - 1, &options, NULL, &table)
-                      : D(pdt_table_create, database, called[slot], columns, 2, 1, &options, NULL, &table);
+  int code;
+  if (is_empty) code = D(pdt_table_create_csv, database, called[slot], csv, sizeof csv - 1, &options, NULL, &table);
+  else if (rows && below(3) == 0) code = create_plain(slot, ids, qty, rows, &options, &table);
+  else code = D(pdt_table_create, database, called[slot], columns, 2, 1, &options, NULL, &table);
   is("create", one->table ? PDT_EXISTS : PDT_OK, code);
   if (code) return;
   *one = (drawn_table){.table = table, .life = ++lives, .made_at = commit_count};

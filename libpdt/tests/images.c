@@ -99,6 +99,7 @@ static int run(const char *folder) {
 }
 
 int main(int argc, char **argv) {
+  have_sentences();
   if (argc != 2) return fprintf(stderr, "images FOLDER: one that is empty\n"), 2;
   for (int row = 0; row < ROWS; row++) {
     ids[row] = row;

@@ -3,6 +3,7 @@
 #include "refusing.h"
 
 #include <pdt.h>
+#include <pthread.h>
 #include <stdio.h>
 #include <stdlib.h>
 #include <string.h>
@@ -169,8 +170,42 @@ static int refuses_each(int (*dbtxn)(void), long most) {
   return 0;
 }
 
+/* A thread whose sentence finds no memory has that of the code, and a sentence of its own once there is some. */
+static void *says_less_without_memory(void *to) {
+  pdt_txn *txn = to;
+  for (int more = 0; more < 2; more++) {
+    left = more ? -1 : 0;
+    int code = pdt_rollback_to(txn, 5);
+    left = -1;
+    const char *found = pdt_errmsg((pdt_code)code), *wanted = more ? "there is no savepoint of level 5" : pdt_code_text(PDT_MISSING);
+    if (code == PDT_MISSING && !strcmp(found, wanted)) continue;
+    fprintf(stderr, "code %d: %s\n", code, found);
+    return to;
+  }
+  return NULL;
+}
+static int tells_a_new_thread(void) {
+  static const char csv[] = "id:int:key\n1\n";
+  pdt_table *table;
+  pdt_txn *txn;
+  pthread_t thread;
+  void *failed = NULL;
+  CALL(pdt_open(csv, sizeof csv - 1, NULL, &table));
+  CALL(pdt_begin(table, &txn));
+  long before = blocks, refusals = refused;
+  if (pthread_create(&thread, NULL, says_less_without_memory, txn) || pthread_join(thread, &failed)) return 1;
+  if (refused != refusals + 1) return fprintf(stderr, "its block wasn't asked for\n"), 1;
+  if (blocks > before) return fprintf(stderr, "its block stays\n"), 1;
+  pdt_abort(txn);
+  CALL(pdt_close(table));
+  return failed ? 1 : 0;
+}
+
 int main(int argc, char **argv) {
+  have_sentences();
   long most = argc > 1 ? atol(argv[1]) : 400;
+  if (tells_a_new_thread()) return 1;
+  refused = answered = 0;
   if (refuses_each(run, most)) return 1;
   /* a node that can't be grown in place is made anew, and a version that can't be shared is shared by the next begin, so that not
      each refusal is answered */

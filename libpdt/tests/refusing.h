@@ -1,5 +1,6 @@
 /* Has each allocation refused that a test asks for, and counts the blocks that are there. Linked with --wrap of malloc, calloc, realloc
    and free. */
+#include <pdt.h>
 #include <stdlib.h>
 
 static long left = -1, refused;
@@ -25,4 +26,11 @@ void *__wrap_realloc(void *at, size_t len) {
 void __wrap_free(void *at) {
   blocks -= at != NULL;
   __real_free(at);
+}
+
+/* Has the library allocate this thread's block of sentences, which stays until the thread ends, and counts it no more. */
+static inline void have_sentences(void) {
+  pdt_options bad = {sizeof bad, PDT_MAX_RECENT + 1, 0, 0};
+  pdt_table *table;
+  if (pdt_open("", 0, &bad, &table) != PDT_OK) blocks = 0;
 }

@@ -167,6 +167,7 @@ static int drop_refused(const char *folder, long at) {
 }
 
 int main(int argc, char **argv) {
+  have_sentences();
   if (argc < 3) return 2;
   char folder[400], words[500];
   snprintf(folder, sizeof folder, "%s/scarce", argv[1]);

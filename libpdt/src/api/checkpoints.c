@@ -46,7 +46,7 @@ pdt_code pdt_checkpoint_begin(pdt_table *table, uint64_t *commits, pdt_open_chec
 pdt_code pdt_checkpoint_write(pdt_open_checkpoint *checkpoint, const char *folder) {
   if (!checkpoint || checkpoint->is_written || !folder) return PDT_MISUSE;
   int code = pdti_try_folder(checkpoint->table, folder);
-  if (code) return code;
+  if (code) return pdti_plain(code);
   uint8_t *chunk = malloc(CHUNK);
   if (!chunk) return PDT_NOMEM;
   pdti_handle image = {NULL};
@@ -59,7 +59,7 @@ pdt_code pdt_checkpoint_write(pdt_open_checkpoint *checkpoint, const char *folde
   }
   pdti_free_chunk(chunk);
   checkpoint->is_written = !code;
-  return code;
+  return pdti_plain(code);
 }
 
 pdt_code pdt_checkpoint_read(pdt_open_checkpoint *checkpoint, pdt_txn **out) {
@@ -158,7 +158,7 @@ pdt_code pdt_checkpoint(pdt_table *table, const char *folder) {
   if (!table || !folder || pdti_enter(table)) return PDT_MISUSE;
   pdti_leave(table); /* no commit of this thread is prepared: that is said before the folder is looked at */
   int code = pdti_try_folder(table, folder);
-  if (code) return code;
+  if (code) return pdti_plain(code);
   uint8_t *chunk = malloc(CHUNK);
   if (!chunk) return PDT_NOMEM;
   pdti_draft made = {{NULL}, {NULL}, {NULL}, 0};
@@ -170,7 +170,7 @@ pdt_code pdt_checkpoint(pdt_table *table, const char *folder) {
   }
   end_draft(&made);
   pdti_free_chunk(chunk);
-  return code;
+  return pdti_plain(code);
 }
 
 /* ---- images as bytes */
@@ -192,5 +192,5 @@ pdt_code pdt_checkpoint_to(pdt_table *table, pdt_write write, void *context, siz
   if (!code) code = install_draft(table, &made);
   end_draft(&made);
   pdti_free_chunk(chunk);
-  return code;
+  return pdti_plain(code);
 }

@@ -1,6 +1,8 @@
 /* The entries of layers, and the change feed: what each commit changed. */
 #include "inside.h"
 
+#include <inttypes.h>
+
 struct pdt_layer {
   pdti_handle raw;
   size_t width; /* of its table, which may be closed */
@@ -59,8 +61,10 @@ size_t pdt_layer_size(pdt_layer *layer) { return layer && layer->raw.at ? pdtr_l
 
 pdt_code pdt_entry_at(pdt_layer *layer, size_t index, pdt_entry *entry, int64_t *numbers, void *out, size_t room) {
   if (!layer || !entry || !numbers || (!out && room)) return PDT_MISUSE;
-  if (!layer->raw.at) return PDT_MISSING; /* of a commit that changed another table */
-  return (int)pdtr_entry(&layer->raw, index, entry, numbers, layer->width, room_at(out, room), room);
+  int code = PDT_MISSING;
+  if (layer->raw.at) code = (int)pdtr_entry(&layer->raw, index, entry, numbers, layer->width, room_at(out, room), room);
+  if (code != PDT_MISSING) return code; /* else it may be of a commit that changed another table */
+  return pdti_say(code, "there is no entry %zu: the layer has %zu", index, pdt_layer_size(layer));
 }
 
 /* ---- the change feed */
@@ -102,7 +106,7 @@ pdt_code pdt_changes(pdt_table *table, uint64_t number, pdt_layer **out) {
   }
   if (code) {
     pdt_layer_close(layer);
-    return code;
+    return code == PDT_MISSING ? pdti_say(code, "the changes of commit %" PRIu64 " aren't retained", number) : code;
   }
   *out = layer;
   return PDT_OK;
@@ -146,5 +150,5 @@ pdt_code pdt_wait(pdt_table *table, uint64_t after, uint64_t milliseconds, uint6
   number = wait_until(table, after, &end);
   pthread_cleanup_pop(1);
   if (commits) *commits = number;
-  return number > after ? PDT_OK : PDT_MISSING;
+  return number > after ? PDT_OK : pdti_say(PDT_MISSING, "no commit came after %" PRIu64 " within %" PRIu64 " ms", after, milliseconds);
 }

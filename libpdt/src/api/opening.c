@@ -2,6 +2,7 @@
 #define _DEFAULT_SOURCE
 #include "inside.h"
 
+#include <inttypes.h>
 #include <stdio.h>
 #include <sys/mman.h>
 
@@ -92,9 +93,32 @@ static pdt_fault fault_of(const pdti_text_fault *found) {
       "the cell is no value of the column's type",
       "the text has more than 4,096 bytes",
       "the key is that of an earlier record",
+      "no column has this name of the key, or the key has it twice",
+      "the cell isn't a name of 1 to 64 bytes without a colon",
   };
   bool is_known = found->cause && found->cause < sizeof text_faults / sizeof *text_faults;
   return (pdt_fault){{found->row, found->column}, is_known ? text_faults[found->cause] : pdt_code_text(PDT_BAD_TABLE)};
+}
+
+/* What an opening over a text tells of its first fault: the place, and a sentence of so many bytes, which has none where memory was refused. */
+typedef struct {
+  pdti_text_fault at;
+  size_t said;
+  uint8_t sentence[512];
+} told_text;
+
+/* Keeps the sentence of a text's first fault, or, where there is none, the place and the cause. */
+static int refuse_text(const told_text *told) {
+  if (told->said && told->said <= sizeof told->sentence) return pdti_keep_sentence(PDT_BAD_TABLE, (const char *)told->sentence, told->said);
+  pdt_fault fault = fault_of(&told->at);
+  return pdti_say(PDT_BAD_TABLE, "record %" PRIu64 ", column %" PRIu64 ": %s", fault.place.row, fault.place.column, fault.cause);
+}
+
+/* Why a text isn't opened as a table. */
+static int refuse_opening(int code, const told_text *told, const pdt_options *options, pdt_fault *fault) {
+  if (code != PDT_BAD_TABLE) return pdti_refuse_options(code, options);
+  if (fault) *fault = fault_of(&told->at);
+  return refuse_text(told);
 }
 
 pdt_code pdt_open(const void *csv, size_t bytes, const pdt_options *options, pdt_table **out) {
@@ -108,12 +132,63 @@ pdt_code pdt_open_csv(const void *csv, size_t bytes, const pdt_options *options,
   if ((!csv && bytes) || pdti_options_of(options, &asked)) return PDT_MISUSE;
   pdt_table *table = calloc(1, sizeof *table);
   if (!table) return PDT_NOMEM;
-  pdti_text_fault found = {0, 0, 0};
-  int code = (int)pdtr_open(bytes_at(csv, bytes), bytes, asked.recent, asked.row_limit, asked.by_row, &found, &table->raw);
-  if (code == PDT_BAD_TABLE && fault) *fault = fault_of(&found);
+  told_text told = {.said = 0};
+  int code = (int)pdtr_open(bytes_at(csv, bytes), bytes, asked.recent, asked.row_limit, asked.by_row, &told.at, told.sentence,
+                            sizeof told.sentence, &told.said, &table->raw);
   if (code) {
     free(table);
-    return code;
+    return refuse_opening(code, &told, &asked, fault);
+  }
+  return pdti_adopt(table, &asked, out);
+}
+
+pdt_code pdt_csv_has_types(const void *csv, size_t bytes, bool *has) {
+  if (!has || (!csv && bytes)) return PDT_MISUSE;
+  *has = false;
+  return (int)pdtr_has_types(bytes_at(csv, bytes), bytes, has);
+}
+
+enum { PLAIN_SAMPLE = 1000, NO_SUCH_NAME = 12 /* of text_faults: a name of the key */ };
+
+/* Keeps a sentence for a name of a key. */
+static int refuse_name(const char *name) {
+  pdti_quoted quoted;
+  return pdti_say(PDT_BAD_TABLE, "key: no column has the name %s, or the key has it twice", pdti_quote(&quoted, name, strlen(name)));
+}
+
+/* The names of a key. */
+static int pass_names(pdti_slice **names, const char *const *key, size_t count) {
+  *names = calloc(count ? count : 1, sizeof **names);
+  if (!*names) return PDT_NOMEM;
+  for (size_t i = 0; i < count; i++) {
+    if (!key[i]) return PDT_MISUSE;
+    (*names)[i] = (pdti_slice){(const uint8_t *)key[i], strlen(key[i])};
+  }
+  return PDT_OK;
+}
+
+pdt_code pdt_open_plain(const void *csv, size_t bytes, const pdt_plain *plain, const pdt_options *options, pdt_fault *fault,
+                        pdt_table **out) {
+  if (!out) return PDT_MISUSE;
+  *out = NULL;
+  pdt_options asked;
+  pdt_plain how = {0};
+  if ((!csv && bytes) || pdti_options_of(options, &asked)) return PDT_MISUSE;
+  if (plain && pdti_take_struct(&how, sizeof how, plain, sizeof how)) return PDT_MISUSE;
+  if (!how.key && how.key_count) return PDT_MISUSE;
+  pdti_slice *names = NULL;
+  told_text told = {.said = 0};
+  pdt_table *table = calloc(1, sizeof *table);
+  int code = table ? pass_names(&names, how.key, how.key_count) : PDT_NOMEM;
+  if (!code)
+    code = (int)pdtr_open_plain(bytes_at(csv, bytes), bytes, names, how.key_count, how.sample ? how.sample : PLAIN_SAMPLE, asked.recent,
+                                asked.row_limit, asked.by_row, &told.at, told.sentence, sizeof told.sentence, &told.said, &table->raw);
+  free(names);
+  if (code) {
+    free(table);
+    bool is_name = code == PDT_BAD_TABLE && told.at.cause == NO_SUCH_NAME;
+    code = refuse_opening(code, &told, &asked, fault);
+    return is_name ? refuse_name(how.key[told.at.column]) : code;
   }
   return pdti_adopt(table, &asked, out);
 }
@@ -121,9 +196,10 @@ pdt_code pdt_open_csv(const void *csv, size_t bytes, const pdt_options *options,
 /* It is the text of a table with no rows. */
 int pdti_width_of(const uint8_t *header, size_t len, size_t *width) {
   pdti_handle raw = {NULL};
-  pdti_text_fault found = {0, 0, 0};
-  int code = (int)pdtr_open(bytes_at(header, len), len, 1, PDT_MAX_ROWS, false, &found, &raw);
-  if (code) return code;
+  told_text told = {.said = 0};
+  int code = (int)pdtr_open(bytes_at(header, len), len, 1, PDT_MAX_ROWS, false, &told.at, told.sentence, sizeof told.sentence, &told.said,
+                            &raw);
+  if (code) return code == PDT_BAD_TABLE ? refuse_text(&told) : pdti_plain(code);
   *width = pdtr_width(&raw);
   pdtr_close(&raw);
   return PDT_OK;
@@ -202,6 +278,14 @@ static int head_columns(const pdt_column *columns, size_t count, size_t key, cha
   return PDT_OK;
 }
 
+/* Why columns aren't opened as a table. */
+static int refuse_columns(int code, const pdt_column *columns, size_t count, size_t key, const pdt_place *at, const pdt_options *asked) {
+  if (code == PDT_BAD_TABLE) return pdti_refuse_headings(columns, count, key);
+  if (code == PDT_TYPE_MISMATCH) return pdti_refuse_value(columns, at);
+  if (code == PDT_NOT_ASCENDING) return pdti_refuse_order(columns, key, at->row);
+  return pdti_refuse_options(code, asked);
+}
+
 pdt_code pdt_open_columns(const pdt_column *columns, size_t count, size_t key, const pdt_options *options, pdt_place *place,
                           pdt_table **out) {
   if (!out) return PDT_MISUSE;
@@ -212,7 +296,7 @@ pdt_code pdt_open_columns(const pdt_column *columns, size_t count, size_t key, c
   size_t len = 0;
   pdt_place at = {0, 0};
   int code = head_columns(columns, count, key, header, &len);
-  if (code) return code;
+  if (code) return refuse_columns(code, columns, count, key, &at, &asked);
   pdti_passed *all = malloc(sizeof *all);
   pdt_table *table = calloc(1, sizeof *table);
   pdti_zeros map = {NULL, 0};
@@ -226,7 +310,7 @@ pdt_code pdt_open_columns(const pdt_column *columns, size_t count, size_t key, c
   if (place) *place = at;
   if (code) {
     free(table);
-    return code;
+    return refuse_columns(code, columns, count, key, &at, &asked);
   }
   return pdti_adopt(table, &asked, out);
 }
@@ -248,10 +332,12 @@ pdt_code pdt_recover_from(const void *header, size_t len, const pdt_bytes *colum
   pdt_table *table = calloc(1, sizeof *table);
   if (!table) return PDT_NOMEM;
   uint32_t found = 0;
+  size_t width;
   int code = (int)pdtr_recover(bytes_at(header, len), len, slices, count, asked.recent, asked.row_limit, asked.by_row, &found, &table->raw);
   if (code) {
     free(table);
-    return code;
+    bool is_header = code == PDT_BAD_TABLE && pdti_width_of(header, len, &width) == code; /* which says why */
+    return is_header ? code : pdti_refuse_options(code, &asked);
   }
   if (generation) *generation = found;
   return pdti_adopt(table, &asked, out);

@@ -1,6 +1,8 @@
 /* What a transaction reads. */
 #include "inside.h"
 
+#include <inttypes.h>
+
 static const char *no_texts[1];
 static pdt_int_span no_spans[1];
 static pdt_row_run no_row_runs[1];
@@ -18,7 +20,7 @@ pdt_code pdt_rank(pdt_txn *txn, const int64_t *key, const void *texts, size_t by
   int code = (int)pdtr_rank(&txn->raw, key, txn->table->key, bytes_at(texts, bytes), bytes, &position, &is_there);
   *below = position;
   *there = is_there;
-  return code;
+  return code ? pdti_refuse_key(code, txn->table, key, texts, bytes) : code;
 }
 
 pdt_code pdt_get(pdt_txn *txn, const int64_t *key, const void *texts, size_t bytes, int64_t *numbers, void *out, size_t room,
@@ -28,7 +30,12 @@ pdt_code pdt_get(pdt_txn *txn, const int64_t *key, const void *texts, size_t byt
   int code = (int)pdtr_get(&txn->raw, key, txn->table->key, bytes_at(texts, bytes), bytes, numbers, txn->table->width, room_at(out, room),
                            room, &count);
   if (needed) *needed = count;
-  return code;
+  return code ? pdti_refuse_key(code, txn->table, key, texts, bytes) : code;
+}
+
+/* There is no row at a position. */
+static int refuse_position(pdt_txn *txn, uint64_t position) {
+  return pdti_say(PDT_MISSING, "there is no row at position %" PRIu64 ": the number of rows is %" PRIu64, position, pdtr_rows(&txn->raw));
 }
 
 pdt_code pdt_row_at(pdt_txn *txn, uint64_t position, int64_t *numbers, void *out, size_t room, size_t *needed) {
@@ -36,7 +43,7 @@ pdt_code pdt_row_at(pdt_txn *txn, uint64_t position, int64_t *numbers, void *out
   size_t count = 0;
   int code = (int)pdtr_row_at(&txn->raw, position, numbers, txn->table->width, room_at(out, room), room, &count);
   if (needed) *needed = count;
-  return code;
+  return code == PDT_MISSING ? refuse_position(txn, position) : code;
 }
 
 pdt_code pdt_cells(pdt_txn *txn, size_t column, uint64_t from, int64_t *numbers, size_t *count, void *out, size_t room, size_t *bytes) {
@@ -81,7 +88,7 @@ pdt_code pdt_row_runs(pdt_txn *txn, uint64_t from, uint64_t to, pdt_row_run *row
 
 pdt_code pdt_changed(pdt_txn *txn, uint64_t position, uint8_t *changed, size_t columns) {
   if (!txn || (!changed && columns)) return PDT_MISUSE;
-  if (position >= pdtr_rows(&txn->raw)) return PDT_MISSING;
+  if (position >= pdtr_rows(&txn->raw)) return refuse_position(txn, position);
   pdtr_own(&txn->raw, position, room_at(changed, columns), columns);
   return PDT_OK;
 }

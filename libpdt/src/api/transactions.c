@@ -293,27 +293,36 @@ pdt_code pdt_give_up(pdt_txn *txn) {
   return PDT_OK;
 }
 
-/* ---- writes: none while a commit of these writes is prepared */
+/* ---- writes: none while a commit of these writes is prepared. What follows a refusal is off the path of a write that is done. */
+
+static int refuse_row(int code, const pdt_table *table, const int64_t *numbers, const void *texts, size_t bytes) {
+  if (code == PDT_DUPLICATE) return pdti_keep_key(code, PDTI_EXISTS, table, numbers, texts);
+  return pdti_refuse_cells(code, table, numbers, table->width, texts, bytes);
+}
 
 pdt_code pdt_insert(pdt_txn *txn, const int64_t *numbers, const void *texts, size_t bytes) {
   if (!txn || txn->is_prepared || !numbers || (!texts && bytes)) return PDT_MISUSE;
-  return (int)pdtr_insert(&txn->raw, numbers, txn->table->width, bytes_at(texts, bytes), bytes);
+  int code = (int)pdtr_insert(&txn->raw, numbers, txn->table->width, bytes_at(texts, bytes), bytes);
+  return code ? refuse_row(code, txn->table, numbers, texts, bytes) : code;
 }
 
 pdt_code pdt_delete(pdt_txn *txn, const int64_t *key, const void *texts, size_t bytes) {
   if (!txn || txn->is_prepared || !key || (!texts && bytes)) return PDT_MISUSE;
-  return (int)pdtr_delete(&txn->raw, key, txn->table->key, bytes_at(texts, bytes), bytes);
+  int code = (int)pdtr_delete(&txn->raw, key, txn->table->key, bytes_at(texts, bytes), bytes);
+  return code ? pdti_refuse_key(code, txn->table, key, texts, bytes) : code;
 }
 
 pdt_code pdt_set(pdt_txn *txn, const int64_t *key, const void *texts, size_t bytes, size_t column, int64_t number, const void *text) {
   if (!txn || txn->is_prepared || !key || (!texts && bytes)) return PDT_MISUSE;
   size_t len = 0;
   if (pdt_column_type(txn->table, column) == PDT_TEXT) {
-    if (number < 0 || number > PDT_MAX_TEXT) return PDT_TYPE_MISMATCH;
+    if (number < 0 || number > PDT_MAX_TEXT) return pdti_refuse_set(txn->table, &(pdti_set_cell){key, texts, bytes, column, number, NULL});
     len = (size_t)number;
   }
   if (!text && len) return PDT_MISUSE;
-  return (int)pdtr_set(&txn->raw, key, txn->table->key, bytes_at(texts, bytes), bytes, column, number, bytes_at(text, len), len);
+  int code = (int)pdtr_set(&txn->raw, key, txn->table->key, bytes_at(texts, bytes), bytes, column, number, bytes_at(text, len), len);
+  if (code == PDT_TYPE_MISMATCH) return pdti_refuse_set(txn->table, &(pdti_set_cell){key, texts, bytes, column, number, text});
+  return code ? pdti_refuse_key(code, txn->table, key, texts, bytes) : code;
 }
 
 /* ---- savepoints */
@@ -323,12 +332,18 @@ pdt_code pdt_savepoint(pdt_txn *txn, size_t *level) {
   return (int)pdtr_mark(&txn->raw, level);
 }
 
+static int refuse_level(int code, size_t level) {
+  return code == PDT_MISSING ? pdti_say(code, "there is no savepoint of level %zu", level) : pdti_plain(code);
+}
+
 pdt_code pdt_rollback_to(pdt_txn *txn, size_t level) {
   if (!txn || txn->is_prepared) return PDT_MISUSE;
-  return (int)pdtr_back_to(&txn->raw, level);
+  int code = (int)pdtr_back_to(&txn->raw, level);
+  return code ? refuse_level(code, level) : code;
 }
 
 pdt_code pdt_release(pdt_txn *txn, size_t level) {
   if (!txn || txn->is_prepared) return PDT_MISUSE;
-  return (int)pdtr_release(&txn->raw, level);
+  int code = (int)pdtr_release(&txn->raw, level);
+  return code ? refuse_level(code, level) : code;
 }

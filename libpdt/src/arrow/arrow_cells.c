@@ -1,8 +1,12 @@
 /* The cells of a batch of an Arrow stream, appended to those that are gathered. */
 #include "arrow.h"
 
+const char pdti_no_null[] = "a null isn't allowed";
+
 int pdti_tell_cell(const pdti_gathering *all, size_t at, uint64_t row, const char *what) {
-  return pdti_tell(all->fault, PDT_TYPE_MISMATCH, all->before + all->rows + row, at, "column %s has %s", all->columns[at].name, what);
+  pdti_where where;
+  pdti_where_of(&where, all->columns[at].name, strlen(all->columns[at].name));
+  return pdti_tell(all->fault, PDT_TYPE_MISMATCH, all->before + all->rows + row, at, "%s%s", where.text, what);
 }
 
 /* ---- room */
@@ -102,13 +106,13 @@ static int take_numbers(pdti_gathering *all, size_t at, const void *cells, uint6
     for (size_t row = 0; row < rows; row++) {
       int64_t wide[2];
       memcpy(wide, (const char *)cells + (from + row) * sizeof wide, sizeof wide);
-      if (wide[1] != wide[0] >> 63) return pdti_tell_cell(all, at, row, "a decimal that 64 bits don't hold");
+      if (wide[1] != wide[0] >> 63) return pdti_tell_cell(all, at, row, "64 bits don't hold the decimal");
       out[row] = wide[0];
     }
   }
   if (as->kind != PDTI_NUMBERS || as->is_signed || as->bytes < 8) return PDT_OK;
   for (size_t row = 0; row < rows; row++)
-    if (out[row] < 0) return pdti_tell_cell(all, at, row, "a number above 9,223,372,036,854,775,807");
+    if (out[row] < 0) return pdti_tell_cell(all, at, row, "the number is above 9,223,372,036,854,775,807");
   return PDT_OK;
 }
 
@@ -179,7 +183,7 @@ static pdti_texts texts_of(const struct ArrowArray *array, const pdti_format *as
   return found;
 }
 
-static const char no_text[] = "a text that lies nowhere, or has more than 4,096 bytes";
+static const char no_text[] = "the text isn't within its buffer, or has more than 4,096 bytes";
 
 /* Appends texts that lie one after the other: all their bytes are copied at once. */
 static int take_joined(pdti_gathering *all, size_t at, const pdti_texts *found, uint64_t from, size_t rows) {
@@ -219,9 +223,9 @@ static int take_indexed(pdti_gathering *all, size_t at, const struct ArrowArray 
   for (size_t row = 0; row < rows; row++) {
     size_t len = 0;
     int64_t index = number_at(array->buffers[1], &column->index, from + row);
-    if (index < 0 || index >= values->length) return pdti_tell_cell(all, at, row, "an index outside its dictionary");
+    if (index < 0 || index >= values->length) return pdti_tell_cell(all, at, row, "the index is outside its dictionary");
     uint64_t place = (uint64_t)values->offset + (uint64_t)index;
-    if (values->buffers[0] && !is_set(values->buffers[0], place)) return pdti_tell_cell(all, at, row, "a null");
+    if (values->buffers[0] && !is_set(values->buffers[0], place)) return pdti_tell_cell(all, at, row, pdti_no_null);
     const uint8_t *text = text_at(&found, place, &len);
     if (!text) return pdti_tell_cell(all, at, row, no_text);
     int code = append_text(column, all->rows + row, text, len);
@@ -240,7 +244,9 @@ static int put_nulls(pdti_gathering *all, size_t at, const void *bits, uint64_t 
     column->has_least |= is_there;
     column->has_null |= !is_there;
     bool is_clear = !column->has_least || (column->may_have_least && !column->has_null);
-    if (!is_clear) return pdti_tell_cell(all, at, row, is_there ? "the number that stands for a null" : "a null beside its number");
+    if (!is_clear)
+      return pdti_tell_cell(all, at, row,
+                            is_there ? "the number is the one that stands for a null" : "a null, beside the number that stands for a null");
     numbers[row] = INT64_MIN;
   }
   return PDT_OK;

@@ -7,14 +7,24 @@
 
 /* ---- what is told */
 
-int pdti_tell(pdt_arrow_fault *fault, int code, uint64_t row, uint64_t column, const char *form, ...) {
+int pdti_tell_kept(pdt_arrow_fault *fault, int code, uint64_t row, uint64_t column) {
   if (!fault) return code;
-  va_list words;
-  va_start(words, form);
-  vsnprintf(fault->cause, sizeof fault->cause, form, words);
-  va_end(words);
+  const char *sentence = pdt_errmsg((pdt_code)code);
+  size_t len = strlen(sentence), most = sizeof fault->cause - 1;
+  if (len > most)
+    for (len = most; ((uint8_t)sentence[len] & 0xc0) == 0x80;) len--; /* before a character */
+  memcpy(fault->cause, sentence, len);
+  fault->cause[len] = 0;
   fault->place = (pdt_place){row, column};
   return code;
+}
+
+int pdti_tell(pdt_arrow_fault *fault, int code, uint64_t row, uint64_t column, const char *form, ...) {
+  va_list words;
+  va_start(words, form);
+  pdti_say_words(code, form, words);
+  va_end(words);
+  return pdti_tell_kept(fault, code, row, column);
 }
 
 int pdti_clear_fault(pdt_arrow_fault *fault) {
@@ -32,7 +42,9 @@ static int tell_batch(const pdti_gathering *all, const char *why) {
 
 /* The cells of a column in the batch that comes next. */
 static int tell_column(const pdti_gathering *all, size_t at, const char *why) {
-  return pdti_tell(all->fault, PDT_TYPE_MISMATCH, all->before + all->rows, at, "column %s %s", all->columns[at].name, why);
+  pdti_quoted name;
+  const char *quoted = pdti_quote(&name, all->columns[at].name, strlen(all->columns[at].name));
+  return pdti_tell(all->fault, PDT_TYPE_MISMATCH, all->before + all->rows, at, "column %s %s", quoted, why);
 }
 
 /* What a stream says of why it failed. */
@@ -49,8 +61,10 @@ static int take_name(pdti_gathering *all, size_t at, const char *name) {
   size_t len = name ? strnlen(name, PDT_MAX_NAME + 1) : 0;
   if (!len || len > PDT_MAX_NAME || strchr(name, ':') || !pdti_is_utf8((const uint8_t *)name, len))
     return pdti_tell(all->fault, PDT_BAD_TABLE, 0, at, "column %zu has no name of 1 to 64 bytes of UTF-8 without a colon", at);
+  pdti_quoted quoted;
   for (size_t before = 0; before < at; before++)
-    if (!strcmp(all->columns[before].name, name)) return pdti_tell(all->fault, PDT_BAD_TABLE, 0, at, "two columns have the name %s", name);
+    if (!strcmp(all->columns[before].name, name))
+      return pdti_tell(all->fault, PDT_BAD_TABLE, 0, at, "two columns have the name %s", pdti_quote(&quoted, name, len));
   memcpy(all->columns[at].name, name, len + 1);
   return PDT_OK;
 }
@@ -68,8 +82,10 @@ static int take_field(pdti_gathering *all, size_t at, const struct ArrowSchema *
   if (is_taken && column->has_dictionary)
     is_taken = column->as.type == PDT_TEXT && pdti_read_format(field->format, &column->index) && column->index.kind == PDTI_NUMBERS;
   if (is_taken) return PDT_OK;
-  return pdti_tell(all->fault, PDT_TYPE_MISMATCH, 0, at, "column %s is of Arrow's format %.40s%s, which no column takes", column->name,
-                   values->format ? values->format : "(none)", column->has_dictionary ? " in a dictionary" : "");
+  pdti_quoted name;
+  return pdti_tell(all->fault, PDT_TYPE_MISMATCH, 0, at, "column %s is of Arrow's format %.40s%s, which no column takes",
+                   pdti_quote(&name, column->name, strlen(column->name)), values->format ? values->format : "(none)",
+                   column->has_dictionary ? " in a dictionary" : "");
 }
 
 static int take_schema(pdti_gathering *all, const struct ArrowSchema *schema) {
@@ -127,7 +143,7 @@ static int look_at(const pdti_gathering *all, size_t at, const struct ArrowArray
   if (all->columns[at].takes_nulls && bits) return PDT_OK;
   if (!bits) return array->null_count > 0 ? tell_column(all, at, "counts nulls, and doesn't say where they are") : PDT_OK;
   uint64_t row = pdti_first_unset(bits, from, rows);
-  if (row < rows) return pdti_tell_cell(all, at, row, "a null");
+  if (row < rows) return pdti_tell_cell(all, at, row, pdti_no_null);
   bool is_whole = rows == (uint64_t)array->length;
   return is_whole && array->null_count > 0 ? tell_column(all, at, "counts nulls that aren't there") : PDT_OK;
 }

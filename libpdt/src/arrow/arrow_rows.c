@@ -15,6 +15,10 @@ typedef struct {
 
 /* ---- columns */
 
+static const char *name_of(int type) {
+  return type == PDT_INT ? "type int" : type == PDT_TEXT ? "type text" : type == PDT_BOOL ? "type bool" : "no type";
+}
+
 /* Finds the columns of the table by their names among those that come in. */
 static int find_columns(pdti_applying *apply, const pdt_column *columns, size_t count) {
   const pdt_table *table = apply->txn->table;
@@ -22,16 +26,22 @@ static int find_columns(pdti_applying *apply, const pdt_column *columns, size_t 
   for (size_t column = 0; column < apply->width; column++) {
     size_t at = 0;
     while (at < count && strcmp(columns[at].name, table->names[column])) at++;
-    if (at == count) return pdti_tell(apply->fault, PDT_TYPE_MISMATCH, 0, 0, "column %s of the table isn't there", table->names[column]);
+    pdti_quoted name;
+    pdti_quote(&name, table->names[column], table->name_bytes[column]);
+    if (at == count) return pdti_tell(apply->fault, PDT_TYPE_MISMATCH, 0, 0, "column %s of the table isn't there", name.text);
     if (columns[at].type != table->types[column])
-      return pdti_tell(apply->fault, PDT_TYPE_MISMATCH, 0, at, "column %s has cells of another type than in the table", columns[at].name);
+      return pdti_tell(apply->fault, PDT_TYPE_MISMATCH, 0, at, "column %s is of %s, and %s is wanted", name.text, name_of(columns[at].type),
+                       name_of(table->types[column]));
     apply->place[column] = at;
   }
   if (apply->what == PDT_APPLY_DELETE || count == apply->width) return PDT_OK;
   for (size_t at = 0; at < count; at++) {
     size_t column = 0;
     while (column < apply->width && apply->place[column] != at) column++;
-    if (column == apply->width) return pdti_tell(apply->fault, PDT_TYPE_MISMATCH, 0, at, "the table has no column %.64s", columns[at].name);
+    pdti_quoted name;
+    if (column == apply->width)
+      return pdti_tell(apply->fault, PDT_TYPE_MISMATCH, 0, at, "the table has no column %s",
+                       pdti_quote(&name, columns[at].name, strnlen(columns[at].name, PDT_MAX_NAME + 1)));
   }
   return PDT_OK;
 }
@@ -52,17 +62,20 @@ typedef struct {
   size_t key_bytes, bytes;
 } pdti_row_cells;
 
-static int tell_cell(const pdti_applying *apply, size_t column, uint64_t row, const char *what) {
+/* A cell that isn't one of its column, which is looked for again. */
+static int tell_cell(const pdti_applying *apply, size_t column, uint64_t row) {
   size_t at = apply->place[column];
-  return pdti_tell(apply->fault, PDT_TYPE_MISMATCH, apply->before + row, at, "column %s has %s", apply->columns[at].name, what);
+  const pdt_column *in = &apply->columns[at];
+  pdti_where where;
+  if (!pdti_find_value(in, row, pdti_where_of(&where, in->name, strlen(in->name)))) pdti_plain(PDT_TYPE_MISMATCH);
+  return pdti_tell_kept(apply->fault, PDT_TYPE_MISMATCH, apply->before + row, at);
 }
 
 /* Puts the text of a row behind those that are there. */
 static int put_text(pdti_applying *apply, size_t column, uint64_t row, pdti_row_cells *cells) {
   const pdt_column *in = &apply->columns[apply->place[column]];
   uint64_t from = in->offsets[row], to = in->offsets[row + 1];
-  if (to < from || to > in->len || to - from > PDT_MAX_TEXT)
-    return tell_cell(apply, column, row, "a text that lies nowhere, or has more than 4,096 bytes");
+  if (to < from || to > in->len || to - from > PDT_MAX_TEXT) return tell_cell(apply, column, row);
   size_t len = (size_t)(to - from);
   if (len) memcpy(apply->texts + cells->bytes, in->bytes + from, len);
   cells->numbers[column] = (int64_t)len;
@@ -73,7 +86,7 @@ static int put_text(pdti_applying *apply, size_t column, uint64_t row, pdti_row_
 static int put_cell(pdti_applying *apply, size_t column, uint64_t row, pdti_row_cells *cells) {
   const pdt_column *in = &apply->columns[apply->place[column]];
   if (in->type == PDT_TEXT) return put_text(apply, column, row, cells);
-  if (in->type == PDT_BOOL && in->bytes[row] > 1) return tell_cell(apply, column, row, "a boolean that is neither 0 nor 1");
+  if (in->type == PDT_BOOL && in->bytes[row] > 1) return tell_cell(apply, column, row);
   cells->numbers[column] = in->type == PDT_INT ? in->numbers[row] : in->bytes[row];
   return PDT_OK;
 }
@@ -112,10 +125,10 @@ static int tell_row(const pdti_applying *apply, int code, uint64_t row, const pd
   const uint8_t *text = apply->texts;
   for (size_t column = 0; column < apply->width && code == PDT_TYPE_MISMATCH; column++) {
     if (apply->txn->table->types[column] != PDT_TEXT) continue;
-    if (!pdti_is_utf8(text, (size_t)cells->numbers[column])) return tell_cell(apply, column, row, "a text that is no UTF-8");
+    if (!pdti_is_utf8(text, (size_t)cells->numbers[column])) return tell_cell(apply, column, row);
     text += cells->numbers[column];
   }
-  return pdti_tell(apply->fault, code, apply->before + row, 0, "%s", pdt_code_text(code));
+  return pdti_tell_kept(apply->fault, code, apply->before + row, 0); /* the sentence of the write */
 }
 
 static int apply_rows(pdti_applying *apply, uint64_t rows) {
@@ -155,6 +168,12 @@ static int apply_batches(pdti_applying *apply, pdti_gathering *all, struct Arrow
   return code;
 }
 
+static int tell_meaning(const pdti_applying *apply, size_t at, const pdti_gathered *in, const char *declared) {
+  pdti_quoted name;
+  return pdti_tell(apply->fault, PDT_TYPE_MISMATCH, 0, at, "column %s is declared as %s, and comes in as %s",
+                   pdti_quote(&name, in->name, strlen(in->name)), declared, in->format);
+}
+
 /* Tells a column whose numbers mean something else than those of the table's. Of integers nothing is known, and they are taken. */
 static int compare_meanings(const pdti_applying *apply, pdti_gathering *all) {
   for (size_t column = 0; column < apply->width; column++) {
@@ -164,9 +183,7 @@ static int compare_meanings(const pdti_applying *apply, pdti_gathering *all) {
     if (!*declared) continue;
     in->takes_nulls = *declared == '?';
     bool is_integer = in->as.kind == PDTI_NUMBERS && strlen(in->format) == 1;
-    if (!is_integer && !pdti_means(declared, in->format))
-      return pdti_tell(apply->fault, PDT_TYPE_MISMATCH, 0, apply->place[column], "column %s is declared as %s, and comes in as %s",
-                       in->name, declared, in->format);
+    if (!is_integer && !pdti_means(declared, in->format)) return tell_meaning(apply, apply->place[column], in, declared);
   }
   return PDT_OK;
 }

@@ -97,6 +97,17 @@ static void release_stream(struct ArrowArrayStream *stream) {
 
 /* ---- openings */
 
+/* A column that can't go out as it is asked for. */
+static int refuse_shown(const pdt_table *table, const pdt_arrow_column *asked) {
+  if (asked->column >= table->width) return pdti_refuse_column(table, asked->column);
+  pdti_where where;
+  pdti_quoted format;
+  const char *wanted = asked->format ? asked->format : "";
+  return pdti_say(PDT_TYPE_MISMATCH, "%s%s isn't a format of its type",
+                  pdti_where_of(&where, table->names[asked->column], table->name_bytes[asked->column]),
+                  pdti_quote(&format, wanted, strnlen(wanted, PDTI_FORMAT_BYTES)));
+}
+
 static bool show(const pdt_table *table, const pdt_arrow_column *asked, pdti_shown *column) {
   static const char *const of_type[] = {NULL, "l", "U", "b"};
   int type = pdt_column_type(table, asked->column);
@@ -121,7 +132,7 @@ static int make_scan(pdt_txn *txn, const pdt_arrow_column *asked, size_t count, 
                      pdti_scan **made) {
   const pdt_table *table = txn->table;
   if (!asked) count = table->width;
-  if (count > PDT_MAX_COLUMNS) return PDT_TYPE_MISMATCH;
+  if (count > PDT_MAX_COLUMNS) return pdti_say(PDT_TYPE_MISMATCH, "%zu columns are asked for, and 32 are the most", count);
   pdti_scan *out = calloc(1, sizeof *out + count * sizeof *out->columns);
   if (!out) return PDT_NOMEM;
   uint64_t rows = 0;
@@ -132,7 +143,7 @@ static int make_scan(pdt_txn *txn, const pdt_arrow_column *asked, size_t count, 
   out->count = count;
   for (size_t i = 0; i < count && !code; i++) {
     pdt_arrow_column column = asked ? asked[i] : (pdt_arrow_column){i, NULL};
-    if (!show(table, &column, &out->columns[i])) code = PDT_TYPE_MISMATCH;
+    if (!show(table, &column, &out->columns[i])) code = refuse_shown(table, &column);
     if (out->columns[i].as.kind == PDTI_TEXTS && out->columns[i].as.bytes == 4 && out->batch > MOST_OF_U) out->batch = MOST_OF_U;
   }
   if (code) {

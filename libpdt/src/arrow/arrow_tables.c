@@ -44,8 +44,10 @@ static int order_columns(pdti_making *make, const char *const *key, size_t keys)
   for (size_t i = 0; i < keys; i++) {
     if (!key[i]) return PDT_MISUSE;
     size_t at = find(all, key[i]);
-    if (at == all->count) return pdti_tell(all->fault, PDT_BAD_TABLE, 0, 0, "there is no column %.64s, which the key names", key[i]);
-    if (is_key[at]) return pdti_tell(all->fault, PDT_BAD_TABLE, 0, at, "the key names column %s twice", key[i]);
+    pdti_quoted name;
+    pdti_quote(&name, key[i], strnlen(key[i], PDT_MAX_NAME + 1));
+    if (at == all->count) return pdti_tell(all->fault, PDT_BAD_TABLE, 0, 0, "there is no column %s, which the key names", name.text);
+    if (is_key[at]) return pdti_tell(all->fault, PDT_BAD_TABLE, 0, at, "the key names column %s twice", name.text);
     is_key[at] = true;
     make->order[i] = at;
   }
@@ -195,7 +197,7 @@ static int create_sorted(const pdti_home *where, pdti_making *make, pdt_place *p
     pass_columns(make);
     code = create(where, make, place, table);
     if (code == PDT_NOT_ASCENDING) {
-      code = PDT_DUPLICATE;
+      code = pdti_refuse_second(make->columns, make->keys, place->row);
       *place = (pdt_place){sorted[place->row], 0};
     }
   }
@@ -210,11 +212,14 @@ static int create_sorted(const pdti_home *where, pdti_making *make, pdt_place *p
 static int tell(const pdti_making *make, int code, pdt_place place) {
   pdt_arrow_fault *fault = make->all->fault;
   size_t at = make->order[place.column < make->all->count ? place.column : 0];
-  if (code == PDT_TYPE_MISMATCH)
-    return pdti_tell(fault, code, place.row, at, "column %s has a text that is no UTF-8", make->all->columns[at].name);
-  if (code == PDT_DUPLICATE) return pdti_tell(fault, code, place.row, at, "the key is that of an earlier row");
+  if (code == PDT_TYPE_MISMATCH) {
+    pdti_where where;
+    return pdti_tell(fault, code, place.row, at, "%sthe text is not UTF-8",
+                     pdti_where_of(&where, make->all->columns[at].name, strlen(make->all->columns[at].name)));
+  }
+  if (code == PDT_DUPLICATE) return pdti_tell_kept(fault, code, place.row, at);
   if (code == PDT_OK || code == PDT_NOMEM || code == PDT_MISUSE) return code;
-  return pdti_tell(fault, code, 0, 0, "%s", pdt_code_text(code));
+  return pdti_tell_kept(fault, code, 0, 0);
 }
 
 static int make_table(const pdti_home *where, pdti_making *make, pdt_table **table) {
@@ -263,7 +268,7 @@ pdt_code pdt_table_create_arrow(pdt_database *database, const char *name, struct
                                 size_t keys, const pdt_options *options, pdt_arrow_fault *fault, pdt_table **table) {
   int code = pdti_may_create(database, name, table);
   if (!code) return open_or_create(&(pdti_home){database, name, options}, stream, key, keys, fault, table);
-  if (!pdti_clear_fault(fault) && code == PDT_TYPE_MISMATCH) pdti_tell(fault, code, 0, 0, "a table can't have the name");
+  if (!pdti_clear_fault(fault) && code == PDT_TYPE_MISMATCH) pdti_tell_kept(fault, code, 0, 0);
   pdti_release_stream(stream);
   return code;
 }

@@ -184,7 +184,7 @@ pdt_code pdt_database_open(const char *folder, const pdt_database_options *optio
     pdti_remove_new(database, is_new ? folder : NULL);
     free_database(database);
     errno = why;
-    return code;
+    return code == PDT_MISSING ? pdti_say(code, "there is no database in the folder") : pdti_plain(code);
   }
   *out = database;
   return PDT_OK;

@@ -238,7 +238,7 @@ pdt_code pdt_dbtxn_on(pdt_dbtxn *dbtxn, pdt_table *table, pdt_txn **out) {
   if (!dbtxn || !table || table->database != dbtxn->database) return PDT_MISUSE;
   pdti_part *one = dbtxn->parts;
   while (one < dbtxn->parts + dbtxn->count && one->table != table) one++;
-  if (one == dbtxn->parts + dbtxn->count) return PDT_MISSING;
+  if (one == dbtxn->parts + dbtxn->count) return pdti_say(PDT_MISSING, "the table was created after the database transaction began");
   if (!one->txn) {
     pdt_txn *txn = malloc(sizeof *txn);
     if (!txn) return PDT_NOMEM;

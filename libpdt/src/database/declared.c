@@ -26,7 +26,7 @@ void pdti_copy_declared(const pdt_table *table, size_t column, char *format) {
 
 pdt_code pdt_declared_copy(const pdt_table *table, size_t column, char *format, size_t room) {
   if (!table || (!format && room)) return PDT_MISUSE;
-  if (column >= table->width) return PDT_TYPE_MISMATCH;
+  if (column >= table->width) return pdti_refuse_column(table, column);
   char copy[PDTI_FORMAT_BYTES];
   pdti_copy_declared(table, column, copy);
   size_t len = strlen(copy) + 1;
@@ -39,6 +39,21 @@ bool pdti_may_declare(const pdt_table *table, size_t column, const char *format)
   pdti_format as;
   if (column >= table->width || table->types[column] != PDT_INT || strlen(format) >= PDTI_FORMAT_BYTES) return false;
   return pdti_read_format(format + (*format == '?'), &as) && pdti_goes_out(PDT_INT, &as) && (*format != '?' || column >= table->key);
+}
+
+/* A column that can't be declared as a format; of none, a column that isn't there. */
+static int refuse_format(const pdt_table *table, size_t column, const char *format) {
+  if (column >= table->width) return pdti_refuse_column(table, column);
+  pdti_where where;
+  pdti_quoted quoted;
+  pdti_where_of(&where, table->names[column], table->name_bytes[column]);
+  pdti_quote(&quoted, format, strnlen(format, PDTI_FORMAT_BYTES));
+  if (table->types[column] != PDT_INT)
+    return pdti_say(PDT_TYPE_MISMATCH, "%sa %s column isn't declared, only an int column", where.text,
+                    table->types[column] == PDT_TEXT ? "text" : "bool");
+  if (column < table->key && *format == '?')
+    return pdti_say(PDT_TYPE_MISMATCH, "%sa key column has no nulls, as %s wants", where.text, quoted.text);
+  return pdti_say(PDT_TYPE_MISMATCH, "%s%s is not a format of numbers", where.text, quoted.text);
 }
 
 /* ---- files */
@@ -142,7 +157,7 @@ static int declare_in(pdt_database *database, pdt_table *table, size_t column, c
 
 pdt_code pdt_declare(pdt_table *table, size_t column, const char *format) {
   if (!table) return PDT_MISUSE;
-  if (format ? !pdti_may_declare(table, column, format) : column >= table->width) return PDT_TYPE_MISMATCH;
+  if (format ? !pdti_may_declare(table, column, format) : column >= table->width) return refuse_format(table, column, format);
   if (!format) format = "";
   if (table->database) return declare_in(table->database, table, column, format);
   set_declared(table, column, format);
@@ -155,8 +170,9 @@ static int create_declared(pdt_database *database, const char *name, const char 
   for (size_t column = 0; column < count; column++) {
     if (!formats[column]) continue;
     if (!pdti_may_declare(table, column, formats[column])) {
+      int code = refuse_format(table, column, formats[column]);
       pdti_free_table(table);
-      return PDT_TYPE_MISMATCH;
+      return code;
     }
     strcpy(table->declared[column], formats[column]);
   }

@@ -101,145 +101,75 @@ int pdti_note_durable(pdt_database *database) {
   return durable > database->noted ? pdti_write_manifest(database, durable, NULL, NULL) : PDT_OK;
 }
 
-/* ---- reading: what isn't as it is written is damaged */
+/* ---- reading: the exports say what the bytes spell, and that other bytes are damaged */
 
-/* The text that is left, of which what was read is gone. */
-typedef struct {
-  const char *at;
-  bool is_bad;
-} pdti_reader;
-
-static void take_word(pdti_reader *text, const char *word) {
-  size_t len = strlen(word);
-  if (strncmp(text->at, word, len)) text->is_bad = true;
-  if (!text->is_bad) text->at += len;
-}
-
-/* What ends a number. */
-static void take_end(pdti_reader *text, char end) {
-  if (*text->at != end) text->is_bad = true;
-  if (!text->is_bad) text->at++;
-}
-
-static bool is_digit(char byte) { return byte >= '0' && byte <= '9'; }
-
-/* A decimal number up to `most`, without a sign or a zero before it, and what ends it. */
-static uint64_t take_number(pdti_reader *text, uint64_t most, char end) {
-  uint64_t number = 0;
-  if (!text->is_bad && !is_digit(*text->at)) text->is_bad = true;
-  if (!text->is_bad && *text->at == '0' && is_digit(text->at[1])) text->is_bad = true;
-  for (; !text->is_bad && is_digit(*text->at); text->at++) {
-    uint64_t digit = (uint64_t)(*text->at - '0');
-    if (number > most / 10 || digit > most - 10 * number) text->is_bad = true;
-    number = 10 * number + digit;
+/* A table of a manifest that was read: its line and the marks of its files. */
+static void take_table(pdti_handle *manifest, size_t table, pdti_member *entry) {
+  pdti_manifest_line line = {0};
+  size_t len = pdtr_manifest_table(manifest, table, &line, (uint8_t *)entry->name, PDT_MAX_NAME);
+  entry->name[len] = 0;
+  entry->number = line.number;
+  entry->image.number = line.commit;
+  entry->image.folder = line.folder;
+  entry->options = (pdt_options){sizeof entry->options, (size_t)line.recent, line.limit, line.by_row};
+  entry->width = (size_t)line.width;
+  for (size_t file = 0; file <= entry->width; file++) {
+    pdti_manifest_mark mark = {0};
+    (void)pdtr_manifest_mark(manifest, table, file, &mark);
+    *(file ? &entry->image.columns[file - 1] : &entry->image.header) = (pdti_file_mark){mark.size, mark.check};
   }
-  take_end(text, end);
-  return text->is_bad ? 0 : number;
 }
 
-/* So many hexadecimal digits, none of them a capital, and what ends them. */
-static uint64_t take_digits(pdti_reader *text, int digits, char end) {
-  uint64_t number = 0;
-  for (; digits && !text->is_bad; digits--) {
-    char byte = *text->at;
-    if (is_digit(byte)) {
-      number = 16 * number + (uint64_t)(byte - '0');
-    } else if (byte >= 'a' && byte <= 'f') {
-      number = 16 * number + (uint64_t)(byte - 'a') + 10;
-    } else {
-      text->is_bad = true;
-    }
-    if (!text->is_bad) text->at++;
-  }
-  take_end(text, end);
-  return text->is_bad ? 0 : number;
-}
-
-static pdti_file_mark take_mark(pdti_reader *text) {
-  uint64_t len = take_number(text, UINT64_MAX, ' ');
-  return (pdti_file_mark){len, (uint32_t)take_digits(text, 8, '\n')};
-}
-
-static void take_name(pdti_reader *text, char *name) {
-  const char *end = strchr(text->at, '\n');
-  if (!end || end == text->at || end - text->at > PDT_MAX_NAME) text->is_bad = true;
-  if (text->is_bad) return;
-  memcpy(name, text->at, (size_t)(end - text->at));
-  name[end - text->at] = 0;
-  text->at = end + 1;
-}
-
-static void take_table(pdti_reader *text, pdti_member *entry) {
-  take_word(text, "table ");
-  entry->number = (uint32_t)take_number(text, UINT32_MAX, ' ');
-  entry->image.number = take_number(text, UINT64_MAX, ' ');
-  entry->image.folder = take_number(text, UINT64_MAX, ' ');
-  entry->options.size = sizeof entry->options;
-  entry->options.recent = (size_t)take_number(text, SIZE_MAX, ' ');
-  entry->options.row_limit = take_number(text, UINT64_MAX, ' ');
-  entry->options.by_row = take_number(text, 1, ' ');
-  entry->width = (size_t)take_number(text, PDT_MAX_COLUMNS, ' ');
-  take_name(text, entry->name);
-  entry->image.header = take_mark(text);
-  for (size_t i = 0; i < entry->width && !text->is_bad; i++) entry->image.columns[i] = take_mark(text);
-}
-
-/* Adds an entry to those of a database that nobody else has yet. */
-static int take_entries(pdt_database *database, pdti_reader *text) {
-  while (!text->is_bad && *text->at) {
+/* Adds the tables to those of a database that nobody else has yet. */
+static int take_tables(pdt_database *database, pdti_handle *manifest, size_t count) {
+  for (size_t table = 0; table < count; table++) {
     pdti_member *entry = calloc(1, sizeof *entry);
     if (!entry) return PDT_NOMEM;
-    take_table(text, entry);
-    int code = text->is_bad ? PDT_CORRUPT : pdti_add_entry(database, entry);
+    take_table(manifest, table, entry);
+    int code = pdti_add_entry(database, entry);
     if (code) {
       free(entry);
       return code;
     }
   }
-  return text->is_bad ? PDT_CORRUPT : PDT_OK;
-}
-
-/* The text of a manifest without its last line, whose check is right: a zero byte ends it. */
-static int open_text(pdti_buffer *text) {
-  enum { END = 13 }; /* "end 01234567\n" */
-  if (text->len < END || pdti_reserve(text, 1)) return text->len < END ? PDT_CORRUPT : PDT_NOMEM;
-  text->at[text->len] = 0;
-  pdti_reader last = {(const char *)text->at + text->len - END, false};
-  take_word(&last, "end ");
-  uint64_t check = take_digits(&last, 8, '\n');
-  text->len -= END;
-  if (last.is_bad || check != check_of(text->at, text->len) || memchr(text->at, 0, text->len)) return PDT_CORRUPT;
-  text->at[text->len] = 0;
   return PDT_OK;
 }
 
-/* Whether the manifest is of a later version, which is in its first line. */
-static bool is_newer(const char *at) {
-  pdti_reader text = {at, false};
-  take_word(&text, "narthexmace ");
-  return take_number(&text, UINT32_MAX, '\n') > VERSION;
+/* Whether bytes that spell no manifest of this version are one of a later: the last line, with the check of all before it, and the version
+   in the first are those of every version. */
+static bool is_newer(const pdti_buffer *text) {
+  static const char word[] = "narthexmace ";
+  char end[16], first[32] = "";
+  size_t len = (size_t)snprintf(end, sizeof end, "end %08" PRIx32 "\n", 0), begins = sizeof word - 1;
+  if (text->len < len) return false;
+  size_t body = text->len - len;
+  snprintf(end, sizeof end, "end %08" PRIx32 "\n", check_of(text->at, body));
+  memcpy(first, text->at, body < sizeof first ? body : sizeof first - 1);
+  size_t digits = strspn(first + begins, "0123456789");
+  if (memcmp(text->at + body, end, len) || strncmp(first, word, begins)) return false;
+  if (!digits || digits > 10 || first[begins] == '0' || first[begins + digits] != '\n') return false;
+  uint64_t version = strtoull(first + begins, NULL, 10);
+  return version > VERSION && version <= UINT32_MAX;
 }
 
 int pdti_read_manifest(pdt_database *database, uint64_t *number, uint64_t *first) {
   pdti_buffer bytes = {NULL, 0, 0};
+  pdti_handle manifest = {NULL};
   int code = pdti_read_in(database->dir, "manifest", &bytes);
-  if (!code) code = open_text(&bytes);
-  if (!code && is_newer((const char *)bytes.at)) code = PDT_NEWER_FORMAT;
-  if (!code) {
-    pdti_reader text = {(const char *)bytes.at, false};
-    take_word(&text, "narthexmace 1\ndatabase ");
-    database->name = take_digits(&text, 16, ' ');
-    database->salt = take_digits(&text, 16, '\n');
-    take_word(&text, "at ");
-    *number = take_number(&text, UINT64_MAX, ' ');
-    *first = take_number(&text, UINT64_MAX, '\n');
-    database->noted = *number;
-    take_word(&text, "next ");
-    database->next_table = (uint32_t)take_number(&text, UINT32_MAX, ' ');
-    database->next_folder = take_number(&text, UINT64_MAX, '\n');
-    code = take_entries(database, &text);
-  }
+  if (!code) code = (int)pdtr_manifest_read(bytes_at(bytes.at, bytes.len), bytes.len, &manifest);
+  if (code == PDT_CORRUPT && is_newer(&bytes)) code = PDT_NEWER_FORMAT;
   free(bytes.at);
+  if (code) return code;
+  pdti_manifest_head head = {0};
+  size_t count = pdtr_manifest_head(&manifest, &head);
+  database->name = head.store;
+  database->salt = head.salt;
+  database->noted = *number = head.commit;
+  *first = head.first_file;
+  database->next_table = head.next_table;
+  database->next_folder = head.next_folder;
+  code = take_tables(database, &manifest, count);
+  pdtr_manifest_close(&manifest);
   return code;
 }
 

@@ -18,6 +18,11 @@ static pdti_member *find(pdt_database *database, const char *name) {
   return NULL;
 }
 
+static int refuse_name(const char *name) {
+  pdti_quoted quoted;
+  return pdti_say(PDT_MISSING, "no table has the name %s", pdti_quote(&quoted, name, strlen(name)));
+}
+
 pdt_code pdt_table_open(pdt_database *database, const char *name, pdt_table **table) {
   if (!table) return PDT_MISUSE;
   *table = NULL;
@@ -26,18 +31,19 @@ pdt_code pdt_table_open(pdt_database *database, const char *name, pdt_table **ta
   pdti_member *entry = find(database, name);
   if (entry) *table = entry->table;
   pthread_mutex_unlock(&database->locks.fresh_lock);
-  return entry ? PDT_OK : PDT_MISSING;
+  return entry ? PDT_OK : refuse_name(name);
 }
 
 pdt_code pdt_table_name(pdt_database *database, size_t index, char *name, size_t room) {
   if (!pdti_is_ours(database) || (!name && room)) return PDT_MISUSE;
   pthread_mutex_lock(&database->locks.fresh_lock);
-  int code = index < database->count ? PDT_OK : PDT_MISSING;
+  size_t count = database->count;
+  int code = index < count ? PDT_OK : PDT_MISSING;
   size_t len = code ? 0 : strlen(database->members[index]->name) + 1;
   if (!code && len > room) code = PDT_TOO_SMALL;
   if (!code) memcpy(name, database->members[index]->name, len);
   pthread_mutex_unlock(&database->locks.fresh_lock);
-  return code;
+  return code == PDT_MISSING ? pdti_say(code, "there is no table %zu: the database has %zu", index, count) : code;
 }
 
 /* Changes the list of tables while nobody writes, commits or begins. */
@@ -166,7 +172,8 @@ int pdti_create_table(pdt_database *database, const char *name, const pdt_option
   free(entry);
   pdti_free_table(table);
   errno = why;
-  return code;
+  pdti_quoted quoted;
+  return code == PDT_EXISTS ? pdti_say(code, "a table with the name %s exists", pdti_quote(&quoted, name, strlen(name))) : code;
 }
 
 int pdti_may_create(pdt_database *database, const char *name, pdt_table **table) {
@@ -174,7 +181,11 @@ int pdti_may_create(pdt_database *database, const char *name, pdt_table **table)
   *table = NULL;
   if (!name || !pdti_is_ours(database) || pdti_has_prepared(database)) return PDT_MISUSE;
   if (database->options.read_only) return PDT_READONLY;
-  return is_name(name) ? PDT_OK : PDT_TYPE_MISMATCH;
+  if (is_name(name)) return PDT_OK;
+  pdti_quoted quoted;
+  pdti_quote(&quoted, name, strnlen(name, PDT_MAX_NAME + 1));
+  return pdti_say(PDT_TYPE_MISMATCH, "a table can't have the name %s: 1 to 64 bytes of UTF-8 without control characters are wanted",
+                  quoted.text);
 }
 
 int pdti_open_inside(const pdt_column *columns, size_t count, size_t key, const pdt_options *options, pdt_place *place, pdt_table **table) {
@@ -196,6 +207,14 @@ pdt_code pdt_table_create_csv(pdt_database *database, const char *name, const vo
   pdt_table *table = NULL;
   int code = pdti_may_create(database, name, out);
   if (!code) code = pdt_open_csv(csv, bytes, options, fault, &table);
+  return code ? code : pdti_create_table(database, name, options, table, out);
+}
+
+pdt_code pdt_table_create_plain(pdt_database *database, const char *name, const void *csv, size_t bytes, const pdt_plain *plain,
+                                const pdt_options *options, pdt_fault *fault, pdt_table **out) {
+  pdt_table *table = NULL;
+  int code = pdti_may_create(database, name, out);
+  if (!code) code = pdt_open_plain(csv, bytes, plain, options, fault, &table);
   return code ? code : pdti_create_table(database, name, options, table, out);
 }
 
@@ -259,5 +278,5 @@ pdt_code pdt_table_drop(pdt_database *database, const char *name) {
   pthread_mutex_lock(&database->files_lock);
   int code = drop(database, name);
   pthread_mutex_unlock(&database->files_lock);
-  return code;
+  return code == PDT_MISSING ? refuse_name(name) : code;
 }

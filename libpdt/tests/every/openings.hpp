@@ -155,6 +155,49 @@ static string csv_of(const Schema &sc, const Rows &rows) {
   }
   return csv;
 }
+/* Whether a text without types shows the types that the columns have: each text column has a text that is neither an int nor a boolean. */
+static bool shows_types(const Schema &sc, const Rows &rows) {
+  for (size_t c = 0; c < sc.width; c++) {
+    bool shown = sc.type[c] != PDT_TEXT && !rows.empty();
+    for (auto &row : rows) {
+      const string &t = row->c[c].t;
+      bool is_word = t == "true" || t == "false";
+      if (sc.type[c] == PDT_TEXT && !is_word && t.find_first_not_of("+-0123456789") != string::npos) shown = true;
+    }
+    if (!shown) return false;
+  }
+  return true;
+}
+/* A text without types: the key's columns stand anywhere among the others, which keep their order. */
+static string plain_csv_of(const Schema &sc, const Rows &rows) {
+  vector<size_t> columns;
+  for (size_t c = sc.key; c < sc.width; c++) columns.push_back(c);
+  for (size_t c = 0; c < sc.key; c++) columns.insert(columns.begin() + below((int64_t)columns.size() + 1), c);
+  string csv;
+  for (size_t c : columns) csv += (csv.empty() ? "" : ",") + quoted(sc.name[c]);
+  csv += "\n";
+  for (size_t i = rows.size(); i-- > 0;) {
+    string line;
+    for (size_t k = 0; k < columns.size(); k++) {
+      const Cell &x = rows[i]->c[columns[k]];
+      line += k ? "," : "";
+      if (sc.type[columns[k]] == PDT_TEXT) line += quoted(x.t);
+      else if (sc.type[columns[k]] == PDT_BOOL) line += x.n ? "true" : "false";
+      else line += std::to_string(x.n);
+    }
+    csv += line + "\n";
+  }
+  return csv;
+}
+struct Plain { /* as pdt_open_plain takes it */
+  vector<const char *> key;
+  pdt_plain how;
+  Plain(const Schema &sc, const Rows &rows) {
+    for (size_t c = 0; c < sc.key; c++) key.push_back(sc.name[c].c_str());
+    how = pdt_plain{sizeof how, key.data(), key.size(), rows.size()};
+    notes["plain texts"]++;
+  }
+};
 struct Columns { /* as pdt_open_columns takes them */
   vector<pdt_column> columns;
   vector<vector<int64_t>> numbers;
@@ -364,7 +407,11 @@ static void open_table(Store *s) {
       s->limit = std::max<uint64_t>(s->limit, rows.size());
       o = some_options(s);
     }
-    if (one_in(2)) {
+    if (one_in(4) && shows_types(s->sc, rows)) {
+      Plain plain(s->sc, rows);
+      string csv = plain_csv_of(s->sc, rows);
+      answers("create", PDT_OK, D(pdt_table_create_plain, w->d, s->name.c_str(), csv.data(), csv.size(), &plain.how, &o, &fault, &s->h));
+    } else if (one_in(2)) {
       Columns cs(s->sc, rows);
       answers("create", PDT_OK, D(pdt_table_create, w->d, s->name.c_str(), cs.columns.data(), s->sc.width, s->sc.key, &o, &place, &s->h));
     } else {
@@ -384,6 +431,13 @@ static void open_table(Store *s) {
     if (outside) notes["tables with columns outside"]++;
     answers("open columns", PDT_OK,
             D(pdt_open_columns, cs.columns.data(), s->sc.width, s->sc.key, &o, one_in(2) ? &place : nullptr, &s->h));
+  } else if (one_in(3) && shows_types(s->sc, rows)) {
+    Plain plain(s->sc, rows);
+    string csv = plain_csv_of(s->sc, rows);
+    bool has = true;
+    answers("a header without types", PDT_OK, D(pdt_csv_has_types, csv.data(), csv.size(), &has));
+    is("its types", false, has);
+    answers("open", PDT_OK, D(pdt_open_plain, csv.data(), csv.size(), &plain.how, &o, one_in(2) ? &fault : nullptr, &s->h));
   } else {
     string csv = csv_of(s->sc, rows);
     if (one_in(2)) answers("open", PDT_OK, D(pdt_open, csv.data(), csv.size(), &o, &s->h));

@@ -24,6 +24,34 @@ static void row_is(const Schema &sc, const char *what, const R *wanted, const in
   }
   is(what, (long long)at, (long long)bytes);
 }
+/* A text in quotes, cut after 64 characters; of the characters that are drawn only these are escaped. */
+static string shown_text(const string &text) {
+  string out = "\"";
+  size_t characters = 0;
+  for (size_t i = 0; i < text.size(); i++) {
+    unsigned char at = (unsigned char)text[i];
+    char word[8];
+    if ((at & 0xc0) != 0x80 && characters++ == 64) return out + "\"..";
+    snprintf(word, sizeof word, at < 32 || at == 127 ? "\\x%02x" : "%c", at);
+    out += at == '"' || at == '\\' ? string("\\") + text[i] : at == '\n' ? "\\n" : at == '\r' ? "\\r" : at == '\t' ? "\\t" : word;
+  }
+  return out + "\"";
+}
+/* The sentence of the last call, which names a key. A long one is cut. */
+static void sentence_is(pdt_code code, const string &before, const Schema &sc, const Cells &key, const string &behind) {
+  string wanted;
+  for (size_t c = 0; c < sc.key; c++) {
+    bool is_plain = sc.name[c].find_first_of("\",") == string::npos;
+    wanted += (c ? ", " : "") + (is_plain ? sc.name[c] : shown_text(sc.name[c])) + "=";
+    wanted += sc.type[c] == PDT_TEXT   ? shown_text(key[c].t)
+              : sc.type[c] == PDT_BOOL ? (key[c].n ? "true" : "false")
+                                       : std::to_string(key[c].n);
+  }
+  wanted = before + wanted + behind;
+  string found = D(pdt_errmsg, code);
+  notes[wanted.size() < 340 ? "sentences of keys" : "long sentences of keys"]++;
+  if (wanted.size() < 340 && found != wanted) fail("a sentence", wanted, found);
+}
 static size_t bytes_of(const Schema &sc, const R *r) {
   size_t n = 0;
   for (size_t c = 0; c < sc.width; c++) n += r->c[c].t.size();
@@ -57,6 +85,7 @@ static void read_row(Txn *t) {
     code = D(pdt_row_at, t->h, at, numbers.data(), out, space, one_in(5) ? (needed = want, nullptr) : &needed);
   }
   answers("a row", !wanted ? PDT_MISSING : want > space ? PDT_TOO_SMALL : PDT_OK, code);
+  if (by_key && !wanted) sentence_is(PDT_MISSING, "no row has the key ", sc, key, "");
   if (wanted) is("how many bytes", (long long)want, (long long)needed);
   if (code == PDT_OK) row_is(sc, "a row's cells", wanted, numbers.data(), text.data(), want);
 }
@@ -466,4 +495,5 @@ static void read_columns(Store *s) {
   if (strcmp(D(pdt_version), PDT_VERSION)) fail("version", PDT_VERSION, pdt_version());
   int code = (int)below(40) - 5;
   if (!D(pdt_code_text, code)) fail("a sentence", "one", "null");
+  if (!D(pdt_errmsg, (pdt_code)code)) fail("a sentence", "one", "null");
 }

@@ -47,7 +47,10 @@ static void insert(Txn *t, const Cells &row) {
   Cells key = key_of(s->sc, row);
   size_t at = rank_of(t->rows, key);
   int wanted = is_at(t->rows, at, key) ? PDT_DUPLICATE : t->rows.size() >= s->limit ? PDT_FULL : PDT_OK;
-  if (answers("insert", wanted, D(pdt_insert, t->h, p.numbers.data(), p.at(), p.texts.size()))) return;
+  if (answers("insert", wanted, D(pdt_insert, t->h, p.numbers.data(), p.at(), p.texts.size()))) {
+    if (wanted == PDT_DUPLICATE) sentence_is(PDT_DUPLICATE, "a row with the key ", s->sc, key, " exists");
+    return;
+  }
   const R *r = keep(R{row, row, -1, all_of(s->sc)});
   t->rows.insert(t->rows.begin() + (long)at, r);
   auto it = t->eff.find(key);
@@ -59,7 +62,8 @@ static void erase(Txn *t, const Cells &key) {
   Passed p(s->sc, key);
   size_t at = rank_of(t->rows, key);
   bool there = is_at(t->rows, at, key);
-  if (answers("delete", there ? PDT_OK : PDT_MISSING, D(pdt_delete, t->h, p.numbers.data(), p.at(), p.texts.size()))) return;
+  if (answers("delete", there ? PDT_OK : PDT_MISSING, D(pdt_delete, t->h, p.numbers.data(), p.at(), p.texts.size())))
+    return sentence_is(PDT_MISSING, "no row has the key ", s->sc, key, "");
   t->rows.erase(t->rows.begin() + (long)at);
   auto it = t->eff.find(key);
   if (it != t->eff.end() && it->second.kind == INS) t->eff.erase(it);
@@ -74,8 +78,10 @@ static void set(Txn *t, const Cells &key, size_t c, const Cell &v) {
   int wanted = c < s->sc.key ? PDT_TYPE_MISMATCH : there ? PDT_OK : PDT_MISSING;
   if (answers("set", wanted,
               D(pdt_set, t->h, p.numbers.data(), p.at(), p.texts.size(), c, is_text ? (int64_t)v.t.size() : v.n,
-                is_text ? v.t.data() : nullptr)))
+                is_text ? v.t.data() : nullptr))) {
+    if (wanted == PDT_MISSING) sentence_is(PDT_MISSING, "no row has the key ", s->sc, key, "");
     return;
+  }
   R r = *t->rows[at];
   r.c[c] = r.real[c] = v;
   if (r.sid >= 0) r.changed |= 1u << c;
