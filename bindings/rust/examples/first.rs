@@ -7,7 +7,7 @@ fn main() -> Result<(), Error> {
     txn.set([10], 2, 2)?; // column 2 of the row of key 10
     txn.set([20], 2, 7)?;
     txn.insert(cells![30, "Cid", 0])?;
-    txn.commit()?; // or Error::Conflict, where another one changed these cells first
+    txn.commit()?; // or ErrorKind::Conflict, where another one changed these cells first
     let reader = table.begin()?;
     let batch = reader.batch(&[1, 2], ..)?; // two columns, all rows: numbers borrowed, texts copied
     for (name, qty) in batch.texts(0).unwrap().iter().zip(batch.ints(1).unwrap().iter()) {

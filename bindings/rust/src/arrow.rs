@@ -3,6 +3,8 @@
 //! The structs are those of Arrow's C data interface and C stream interface, member by member. Their address is handed to
 //! another library, which moves what it takes, and a stream of another library's is moved here by
 //! [`ArrowArrayStream::take`]. `libpdt/include/pdt_arrow.h` says which formats go out and come in.
+#[cfg(doc)]
+use crate::ErrorKind;
 use crate::cells::owned;
 use crate::columns::passed_name;
 use crate::error::done;
@@ -258,8 +260,8 @@ impl Pin<'_> {
     ///
     /// # Errors
     ///
-    /// - [`Error::TypeMismatch`]: there is no such column, or the format isn't valid for it.
-    /// - [`Error::NoMemory`]: out of memory; nothing changed.
+    /// - [`ErrorKind::TypeMismatch`]: there is no such column, or the format isn't valid for it.
+    /// - [`ErrorKind::NoMemory`]: out of memory; nothing changed.
     pub fn arrow(
         &self,
         columns: &[ArrowColumn<'_>],
@@ -281,8 +283,8 @@ impl<E: Ending> Transaction<'_, E> {
     ///
     /// # Errors
     ///
-    /// - [`Error::TypeMismatch`]: there is no such column, or the format isn't valid for it.
-    /// - [`Error::NoMemory`]: out of memory; nothing changed.
+    /// - [`ErrorKind::TypeMismatch`]: there is no such column, or the format isn't valid for it.
+    /// - [`ErrorKind::NoMemory`]: out of memory; nothing changed.
     pub fn arrow(
         &self,
         columns: &[ArrowColumn<'_>],
@@ -304,12 +306,13 @@ impl<E: Ending> Transaction<'_, E> {
     ///
     /// [`ArrowRefusal`] has the row and the column. Nothing was written.
     ///
-    /// - [`Error::Duplicate`], [`Error::Missing`], [`Error::Full`]: as of the insert or the delete of that row.
-    /// - [`Error::TypeMismatch`]: the columns aren't those of the table, or a cell doesn't fit its column.
-    /// - [`Error::DeviceFailed`]: the stream failed, and the cause has its message.
-    /// - [`Error::TooManyRows`]: a batch has more than 2,147,483,647 rows.
-    /// - [`Error::NoMemory`]: out of memory, here or in the stream.
-    /// - [`Error::Misuse`]: the stream is released already.
+    /// - [`ErrorKind::Duplicate`], [`ErrorKind::Missing`], [`ErrorKind::Full`]: as of the insert or the delete of that
+    ///   row.
+    /// - [`ErrorKind::TypeMismatch`]: the columns aren't those of the table, or a cell doesn't fit its column.
+    /// - [`ErrorKind::DeviceFailed`]: the stream failed, and the cause has its message.
+    /// - [`ErrorKind::TooManyRows`]: a batch has more than 2,147,483,647 rows.
+    /// - [`ErrorKind::NoMemory`]: out of memory, here or in the stream.
+    /// - [`ErrorKind::Misuse`]: the stream is released already.
     pub fn apply_arrow(&mut self, mut stream: ArrowArrayStream, what: Apply) -> Result<u64, ArrowRefusal> {
         let (mut fault, mut rows) = (ffi::ArrowFault::default(), 0);
         // SAFETY: the transaction is open, and nothing reads it meanwhile; the call releases the stream.
@@ -321,11 +324,11 @@ impl<E: Ending> Transaction<'_, E> {
 /// The operation applied to each row of a stream.
 #[derive(Clone, Copy, Debug, PartialEq, Eq)]
 pub enum Apply {
-    /// It is inserted: [`Error::Duplicate`] where there is a row of its key.
+    /// It is inserted: [`ErrorKind::Duplicate`] where there is a row of its key.
     Insert = 1,
     /// It is inserted, or all cells of the row of its key are set.
     Upsert = 2,
-    /// The row of its key is deleted: [`Error::Missing`] where there is none.
+    /// The row of its key is deleted: [`ErrorKind::Missing`] where there is none.
     Delete = 3,
 }
 
@@ -394,13 +397,13 @@ impl Table {
     ///
     /// [`ArrowRefusal`] has the row and the column.
     ///
-    /// - [`Error::TypeMismatch`]: a value or a format that its column can't hold, or a null where there is none.
-    /// - [`Error::Duplicate`]: two rows have one key.
-    /// - [`Error::BadTable`]: a name or the key isn't valid.
-    /// - [`Error::DeviceFailed`]: the stream failed, and the cause has its message.
-    /// - [`Error::TooManyRows`], [`Error::BadLimit`]: as of [`Table::open`].
-    /// - [`Error::NoMemory`]: out of memory, here or in the stream.
-    /// - [`Error::Misuse`]: the stream is released already.
+    /// - [`ErrorKind::TypeMismatch`]: a value or a format that its column can't hold, or a null where there is none.
+    /// - [`ErrorKind::Duplicate`]: two rows have one key.
+    /// - [`ErrorKind::BadTable`]: a name or the key isn't valid.
+    /// - [`ErrorKind::DeviceFailed`]: the stream failed, and the cause has its message.
+    /// - [`ErrorKind::TooManyRows`], [`ErrorKind::BadLimit`]: as of [`Table::open`].
+    /// - [`ErrorKind::NoMemory`]: out of memory, here or in the stream.
+    /// - [`ErrorKind::Misuse`]: the stream is released already.
     pub fn open_arrow(mut stream: ArrowArrayStream, key: &[&str], options: &Options) -> Result<Table, ArrowRefusal> {
         let options = options.passed()?;
         let raw = open(key, |names, fault, raw| {
@@ -418,10 +421,11 @@ impl Table {
     ///
     /// # Errors
     ///
-    /// - [`Error::TypeMismatch`]: there is no such column, it isn't an int column, or the format isn't valid for it.
-    /// - [`Error::Io`]: a file of the database can't be written or synced.
-    /// - [`Error::ReadOnly`]: the database was opened read-only.
-    /// - [`Error::Misuse`]: this thread holds a prepared commit of the table's database.
+    /// - [`ErrorKind::TypeMismatch`]: there is no such column, it isn't an int column, or the format isn't valid for
+    ///   it.
+    /// - [`ErrorKind::Io`]: a file of the database can't be written or synced.
+    /// - [`ErrorKind::ReadOnly`]: the database was opened read-only.
+    /// - [`ErrorKind::Misuse`]: this thread holds a prepared commit of the table's database.
     pub fn declare(&self, column: usize, format: Option<&CStr>) -> Result<(), Error> {
         // SAFETY: the table is open, and the library lets other threads use it; the format ends with a zero.
         done(unsafe { ffi::pdt_declare(self.as_raw(), column, format.map_or(ptr::null(), CStr::as_ptr)) })
@@ -432,8 +436,8 @@ impl Table {
     ///
     /// # Errors
     ///
-    /// - [`Error::TypeMismatch`]: there is no such column.
-    /// - [`Error::NoMemory`]: out of memory.
+    /// - [`ErrorKind::TypeMismatch`]: there is no such column.
+    /// - [`ErrorKind::NoMemory`]: out of memory.
     pub fn declared(&self, column: usize) -> Result<Option<String>, Error> {
         let mut format = [0; FORMAT_BYTES];
         // SAFETY: the table is open, and there is as much room as is said.

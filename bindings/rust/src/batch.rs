@@ -3,7 +3,7 @@ use crate::cells::filled;
 use crate::error::done;
 use crate::table::ColumnType;
 use crate::transaction::Open;
-use crate::{Error, ffi};
+use crate::{Error, ErrorKind, ffi, sentences};
 use std::iter::FusedIterator;
 use std::slice;
 
@@ -85,11 +85,11 @@ impl<'t> Batch<'t> {
 
     /// The cells of the columns from one position of the table up to another.
     pub(crate) fn read(txn: &'t Open<'_>, chosen: &[usize], from: u64, to: u64) -> Result<Batch<'t>, Error> {
-        let rows = usize::try_from(to - from).map_err(|_| Error::NoMemory)?;
+        let rows = usize::try_from(to - from).map_err(|_| ErrorKind::NoMemory)?;
         let mut columns = Vec::new();
         columns.try_reserve_exact(chosen.len())?;
         for column in chosen {
-            let values = match txn.table().columns().get(*column).ok_or(Error::TypeMismatch)?.column_type {
+            let values = match sentences::column(txn.table().columns(), *column)?.column_type {
                 ColumnType::Int => Values::Ints(Ints::read(txn, *column, from, to)?),
                 ColumnType::Text => Values::Texts(Texts::read(txn, *column, from, rows)?),
                 ColumnType::Bool => Values::Bools(read_truths(txn, *column, from, rows)?),
@@ -296,9 +296,8 @@ impl<'t> Batches<'t> {
         to: u64,
         rows: usize,
     ) -> Result<Batches<'t>, Error> {
-        let width = txn.table().columns().len();
-        if chosen.iter().any(|column| *column >= width) {
-            return Err(Error::TypeMismatch);
+        for column in chosen {
+            sentences::column(txn.table().columns(), *column)?;
         }
         let mut columns = Vec::new();
         columns.try_reserve_exact(chosen.len())?;

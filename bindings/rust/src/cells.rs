@@ -1,6 +1,6 @@
 //! Cells, rows, and how they go to the library and come from it.
 use crate::table::{Column, ColumnType};
-use crate::{Error, ffi};
+use crate::{Error, ffi, sentences};
 use std::ffi::c_void;
 use std::ops::Deref;
 
@@ -101,7 +101,7 @@ impl<'c> CellRef<'c> {
 
     /// `TypeMismatch` where the cell has another type than the column. The library says so of a long text.
     pub(crate) fn check(self, column: &Column) -> Result<(), Error> {
-        if self.column_type() == column.column_type { Ok(()) } else { Err(Error::TypeMismatch) }
+        if self.column_type() == column.column_type { Ok(()) } else { Err(sentences::no_cell(self, column)) }
     }
 }
 
@@ -217,21 +217,26 @@ pub(crate) struct Passed {
 }
 
 impl Passed {
-    /// The cells of these columns: one for each, or `TypeMismatch`. `NoMemory` where there is none for the texts.
+    /// The cells of these columns, `"row"` or `"key"`: one for each, or `TypeMismatch`. `NoMemory` where there is none
+    /// for the texts.
     pub(crate) fn of<'c, C: Into<CellRef<'c>>>(
+        what: &str,
         cells: impl IntoIterator<Item = C>,
         columns: &[Column],
     ) -> Result<Passed, Error> {
         let mut passed = Passed { numbers: [0; ffi::MAX_COLUMNS], texts: Vec::new() };
         let mut cells = cells.into_iter();
-        for (column, number) in columns.iter().zip(&mut passed.numbers) {
-            let cell = cells.next().ok_or(Error::TypeMismatch)?.into();
+        for (at, (column, number)) in columns.iter().zip(&mut passed.numbers).enumerate() {
+            let cell = cells.next().ok_or_else(|| sentences::no_row(what, at, columns.len()))?.into();
             cell.check(column)?;
             *number = cell.number();
             passed.texts.try_reserve(cell.bytes().len())?;
             passed.texts.extend_from_slice(cell.bytes());
         }
-        if cells.next().is_some() { Err(Error::TypeMismatch) } else { Ok(passed) }
+        match cells.next() {
+            Some(_) => Err(sentences::no_row(what, columns.len() + 1 + cells.count(), columns.len())),
+            None => Ok(passed),
+        }
     }
 
     /// As many numbers as there are columns in any table, those of the cells first.

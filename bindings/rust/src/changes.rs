@@ -1,6 +1,8 @@
 //! The change feed: what each commit changed.
+#[cfg(doc)]
+use crate::ErrorKind;
 use crate::cells::{cells_of, filled};
-use crate::error::done;
+use crate::error::{done, refused};
 use crate::table::ColumnType;
 use crate::transaction::TEXT_ROOM;
 use crate::{Cell, Error, Row, Table, ffi};
@@ -100,7 +102,7 @@ impl Layer {
     ///
     /// # Errors
     ///
-    /// - [`Error::NoMemory`]: out of memory; nothing changed.
+    /// - [`ErrorKind::NoMemory`]: out of memory; nothing changed.
     pub fn entry(&self, index: usize) -> Result<Option<Entry>, Error> {
         let mut numbers = [0; ffi::MAX_COLUMNS];
         let mut first = [0u8; TEXT_ROOM];
@@ -161,7 +163,7 @@ impl fmt::Debug for Layer {
     }
 }
 
-/// The entries of a layer, in the order of their SIDs. After [`Error::NoMemory`] the same entry comes again.
+/// The entries of a layer, in the order of their SIDs. After [`ErrorKind::NoMemory`] the same entry comes again.
 #[derive(Debug)]
 pub struct Entries<'l> {
     layer: &'l Layer,
@@ -200,7 +202,7 @@ impl Iterator for Changes<'_> {
             return None;
         }
         let number = self.at + 1;
-        let layer = self.table.changes(number).and_then(|layer| layer.ok_or(Error::Missing));
+        let layer = self.table.changes(number).and_then(|layer| layer.ok_or_else(|| refused(ffi::MISSING)));
         self.at = if layer.is_ok() { number } else { self.to };
         Some(layer.map(|layer| (number, layer)))
     }
@@ -215,8 +217,8 @@ impl Table {
     ///
     /// # Errors
     ///
-    /// - [`Error::NoMemory`]: out of memory; nothing changed.
-    /// - [`Error::Misuse`]: this thread holds a prepared commit of the table.
+    /// - [`ErrorKind::NoMemory`]: out of memory; nothing changed.
+    /// - [`ErrorKind::Misuse`]: this thread holds a prepared commit of the table.
     pub fn changes(&self, number: u64) -> Result<Option<Layer>, Error> {
         let mut raw = ptr::null_mut();
         // SAFETY: the table is open while `self` is there.
@@ -234,13 +236,13 @@ impl Table {
     /// The changes of each commit after a number, with the commit's own number, up to the newest commit of this call
     /// (change data capture).
     ///
-    /// There is never a gap: if the next commit isn't retained any more, [`Error::Missing`] comes in its place, and
+    /// There is never a gap: if the next commit isn't retained any more, [`ErrorKind::Missing`] comes in its place, and
     /// nothing after it. A follower then reads the rows of a [`pin`](Table::pin), and goes on from its number. Nothing
-    /// comes after [`Error::NoMemory`] and [`Error::Misuse`] either; a follower may ask again from the last number that
-    /// it has handled.
+    /// comes after [`ErrorKind::NoMemory`] and [`ErrorKind::Misuse`] either; a follower may ask again from the last
+    /// number that it has handled.
     ///
     /// ```
-    /// use narthexmace::{Error, Options, Table};
+    /// use narthexmace::{Error, ErrorKind, Options, Table};
     /// let table = Table::open("id:int:key,qty:int\n10,7\n", &Options { recent: 2, ..Options::default() })?;
     /// for qty in 1..=3 {
     ///     let mut txn = table.begin()?;
@@ -253,7 +255,8 @@ impl Table {
     ///     numbers.push((number, layer.len()));
     /// }
     /// assert_eq!(vec![(2, 1), (3, 1)], numbers);
-    /// assert_eq!(Some(Error::Missing), table.changes_after(0).next().unwrap().err()); // the first one is let go
+    /// let gone = table.changes_after(0).next().unwrap().unwrap_err(); // the first one is let go
+    /// assert_eq!(gone, ErrorKind::Missing);
     /// # Ok::<(), Error>(())
     /// ```
     pub fn changes_after(&self, number: u64) -> Changes<'_> {

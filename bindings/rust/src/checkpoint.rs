@@ -1,4 +1,6 @@
 //! A checkpoint while others commit.
+#[cfg(doc)]
+use crate::ErrorKind;
 use crate::error::done;
 use crate::keeper::Keeper;
 use crate::table::path_of;
@@ -52,11 +54,11 @@ impl<'s> Checkpoint<'s> {
     ///
     /// # Errors
     ///
-    /// - [`Error::Exists`]: the folder has a checkpoint, or a part of one.
-    /// - [`Error::Io`]: a file can't be written or synced, or the folder isn't there or may not be read.
-    /// - [`Error::WritesFailed`]: a commit of the table's database can't be made durable.
-    /// - [`Error::NoMemory`]: out of memory.
-    /// - [`Error::Misuse`]: it is written already, or the path is empty, too long or has a zero byte.
+    /// - [`ErrorKind::Exists`]: the folder has a checkpoint, or a part of one.
+    /// - [`ErrorKind::Io`]: a file can't be written or synced, or the folder isn't there or may not be read.
+    /// - [`ErrorKind::WritesFailed`]: a commit of the table's database can't be made durable.
+    /// - [`ErrorKind::NoMemory`]: out of memory.
+    /// - [`ErrorKind::Misuse`]: it is written already, or the path is empty, too long or has a zero byte.
     ///
     /// After an error the files that were written are deleted, and it may be called again, unless it was written
     /// already.
@@ -72,7 +74,7 @@ impl<'s> Checkpoint<'s> {
     ///
     /// # Errors
     ///
-    /// - [`Error::NoMemory`]: out of memory; nothing changed.
+    /// - [`ErrorKind::NoMemory`]: out of memory; nothing changed.
     pub fn begin(&mut self) -> Result<Transaction<'s>, Error> {
         let mut raw = ptr::null_mut();
         // SAFETY: the checkpoint has not ended, and its table is kept, and so is open.
@@ -87,10 +89,10 @@ impl<'s> Checkpoint<'s> {
     ///
     /// # Errors
     ///
-    /// - [`Error::Superseded`]: a fold or another checkpoint came since the begin. What was written stays valid.
-    /// - [`Error::NoMemory`]: out of memory; it may be called again.
-    /// - [`Error::Misuse`]: it isn't written, or is installed already, or this thread holds a prepared commit of the
-    ///   table.
+    /// - [`ErrorKind::Superseded`]: a fold or another checkpoint came since the begin. What was written stays valid.
+    /// - [`ErrorKind::NoMemory`]: out of memory; it may be called again.
+    /// - [`ErrorKind::Misuse`]: it isn't written, or is installed already, or this thread holds a prepared commit of
+    ///   the table.
     pub fn install(&mut self) -> Result<(), Error> {
         // SAFETY: the checkpoint has not ended, and its table is open, since it is kept.
         done(unsafe { ffi::pdt_checkpoint_install(self.raw.as_ptr()) })

@@ -1,6 +1,7 @@
 //! Tables over columns that the caller has, and images as bytes.
-use crate::error::done;
-use crate::{ColumnType, Error, Options, Table, ffi};
+use crate::error::{done, refused};
+use crate::sentences::Quoted;
+use crate::{ColumnType, Error, ErrorKind, Options, Table, ffi};
 use std::any::Any;
 use std::ffi::{CString, c_int, c_void};
 use std::fmt;
@@ -71,12 +72,15 @@ impl ColumnValues<'_> {
     }
 }
 
-/// A name with a zero behind it. [`Error::BadTable`] where it has one, [`Error::NoMemory`].
+/// A name with a zero behind it. [`ErrorKind::BadTable`] where it has one, [`ErrorKind::NoMemory`].
 pub(crate) fn passed_name(name: &str) -> Result<CString, Error> {
     let mut bytes = Vec::new();
     bytes.try_reserve_exact(name.len() + 1)?;
     bytes.extend_from_slice(name.as_bytes());
-    CString::new(bytes).map_err(|_| Error::BadTable)
+    CString::new(bytes).map_err(|_| {
+        let quoted = Quoted(name);
+        Error::with(ErrorKind::BadTable, format_args!("a column can't have the name {quoted}, which has a zero byte"))
+    })
 }
 
 /// Columns as the library takes them: their values, borrowed, and their names, each with a zero at its end.
@@ -107,8 +111,8 @@ impl<'a> Passed<'a> {
         let code = call(&passed, &mut place, &mut raw);
         let ffi::Place { row, column } = place;
         match code {
-            ffi::SHAPE => Err(ColumnsError::Value { row, column }),
-            ffi::NOT_ASCENDING => Err(ColumnsError::NotAscending { row }),
+            ffi::SHAPE => Err(ColumnsError::Value { row, column, error: refused(code) }),
+            ffi::NOT_ASCENDING => Err(ColumnsError::NotAscending { row, error: refused(code) }),
             code => {
                 done(code)?;
                 Ok(raw)
@@ -118,7 +122,7 @@ impl<'a> Passed<'a> {
 }
 
 /// Why columns don't make a table. Rows and columns count from 0.
-#[derive(Clone, Copy, Debug, PartialEq, Eq)]
+#[derive(Clone, Debug, PartialEq, Eq)]
 pub enum ColumnsError {
     /// The value at this row isn't one of its column's type: a text has offsets that descend or pass the bytes, isn't
     /// UTF-8, or has more than 4,096 bytes. Or the column has no value for this row, or values beyond the rows of the
@@ -128,14 +132,19 @@ pub enum ColumnsError {
         row: u64,
         /// The first such column.
         column: u64,
+        /// [`ErrorKind::TypeMismatch`], with the sentence.
+        error: Error,
     },
     /// The key of this row isn't above the key of the row before it.
     NotAscending {
         /// The first such row.
         row: u64,
+        /// [`ErrorKind::NotAscending`], with the sentence.
+        error: Error,
     },
-    /// [`Error::BadTable`]: the names, the types and the key don't make columns. [`Error::TooManyRows`],
-    /// [`Error::BadLimit`], [`Error::NoMemory`]. [`Error::Misuse`]: values of a database's table stay with the caller.
+    /// [`ErrorKind::BadTable`]: the names, the types and the key don't make columns. [`ErrorKind::TooManyRows`],
+    /// [`ErrorKind::BadLimit`], [`ErrorKind::NoMemory`]. [`ErrorKind::Misuse`]: values of a database's table stay with
+    /// the caller.
     Other(Error),
 }
 
@@ -148,8 +157,7 @@ impl From<Error> for ColumnsError {
 impl From<ColumnsError> for Error {
     fn from(error: ColumnsError) -> Error {
         match error {
-            ColumnsError::Value { .. } => Error::TypeMismatch,
-            ColumnsError::NotAscending { .. } => Error::NotAscending,
+            ColumnsError::Value { error, .. } | ColumnsError::NotAscending { error, .. } => error,
             ColumnsError::Other(error) => error,
         }
     }
@@ -157,11 +165,9 @@ impl From<ColumnsError> for Error {
 
 impl fmt::Display for ColumnsError {
     fn fmt(&self, f: &mut fmt::Formatter<'_>) -> fmt::Result {
-        Error::from(*self).fmt(f)?;
         match self {
-            ColumnsError::Value { row, column } => write!(f, ": row {row} of column {column}"),
-            ColumnsError::NotAscending { row } => write!(f, ": row {row}"),
-            ColumnsError::Other(_) => Ok(()),
+            ColumnsError::Value { error, .. } | ColumnsError::NotAscending { error, .. } => error.fmt(f),
+            ColumnsError::Other(error) => error.fmt(f),
         }
     }
 }
@@ -182,8 +188,8 @@ pub enum CheckpointPart {
 pub enum CheckpointError<E> {
     /// The function returned this error for this part. It wasn't called again.
     Write(CheckpointPart, E),
-    /// [`Error::NoMemory`], [`Error::WritesFailed`], or [`Error::Misuse`] if this thread holds a prepared commit of the
-    /// table.
+    /// [`ErrorKind::NoMemory`], [`ErrorKind::WritesFailed`], or [`ErrorKind::Misuse`] if this thread holds a prepared
+    /// commit of the table.
     Other(Error),
 }
 
@@ -191,10 +197,10 @@ impl<E: fmt::Display> fmt::Display for CheckpointError<E> {
     fn fmt(&self, f: &mut fmt::Formatter<'_>) -> fmt::Result {
         match self {
             CheckpointError::Write(CheckpointPart::Header, error) => {
-                write!(f, "{}: header: {error}", Error::DeviceFailed)
+                write!(f, "{}: header: {error}", ErrorKind::DeviceFailed)
             }
             CheckpointError::Write(CheckpointPart::Column(column), error) => {
-                write!(f, "{}: column {column}: {error}", Error::DeviceFailed)
+                write!(f, "{}: column {column}: {error}", ErrorKind::DeviceFailed)
             }
             CheckpointError::Other(error) => error.fmt(f),
         }
@@ -235,8 +241,8 @@ impl Table {
     ///
     /// - [`ColumnsError::Value`]: a value isn't one of its type, or the columns have different numbers of rows.
     /// - [`ColumnsError::NotAscending`]: a row's key isn't above the key of the row before it.
-    /// - [`ColumnsError::Other`]: [`Error::BadTable`] for a name, a type or a key that isn't valid,
-    ///   [`Error::TooManyRows`], [`Error::BadLimit`] or [`Error::NoMemory`].
+    /// - [`ColumnsError::Other`]: [`ErrorKind::BadTable`] for a name, a type or a key that isn't valid,
+    ///   [`ErrorKind::TooManyRows`], [`ErrorKind::BadLimit`] or [`ErrorKind::NoMemory`].
     ///
     /// ```
     /// use narthexmace::{ColumnValues, ColumnsError, Options, Table};
@@ -245,7 +251,8 @@ impl Table {
     /// let table = Table::from_columns(&[("id", id), ("name", name)], 1, &Options::default())?;
     /// assert_eq!(Some("Bob"), table.begin()?.row_at(1)?.unwrap()[1].as_text());
     /// let twice = Table::from_columns(&[("id", ColumnValues::Ints(&[10, 10]))], 1, &Options::default());
-    /// assert_eq!(Some(ColumnsError::NotAscending { row: 1 }), twice.err());
+    /// let Err(ColumnsError::NotAscending { row: 1, error }) = twice else { panic!() };
+    /// assert_eq!("row 1: the key id=10 is not above the key id=10 of the row before it", error.to_string());
     /// # Ok::<(), narthexmace::Error>(())
     /// ```
     pub fn from_columns(
@@ -267,12 +274,12 @@ impl Table {
     ///
     /// # Errors
     ///
-    /// - [`Error::BadTable`]: the header doesn't describe columns.
-    /// - [`Error::BadCheckpoint`]: a column's bytes can't be read as one, or there are too few or too many columns.
-    /// - [`Error::NoCheckpoint`]: the bytes contain no complete checkpoint.
-    /// - [`Error::TooManyRows`]: more rows than [`Options::row_limit`].
-    /// - [`Error::BadLimit`]: an option is outside its range.
-    /// - [`Error::NoMemory`]: out of memory.
+    /// - [`ErrorKind::BadTable`]: the header doesn't describe columns.
+    /// - [`ErrorKind::BadCheckpoint`]: a column's bytes can't be read as one, or there are too few or too many columns.
+    /// - [`ErrorKind::NoCheckpoint`]: the bytes contain no complete checkpoint.
+    /// - [`ErrorKind::TooManyRows`]: more rows than [`Options::row_limit`].
+    /// - [`ErrorKind::BadLimit`]: an option is outside its range.
+    /// - [`ErrorKind::NoMemory`]: out of memory.
     pub fn recover_from(header: &[u8], columns: &[&[u8]], options: &Options) -> Result<Table, Error> {
         let options = options.passed()?;
         let mut passed = Vec::new();
@@ -302,8 +309,8 @@ impl Table {
     /// # Errors
     ///
     /// - [`CheckpointError::Write`]: `write` returned an error for this part; it isn't called again.
-    /// - [`CheckpointError::Other`]: [`Error::NoMemory`], or [`Error::Misuse`] if this thread holds a prepared commit
-    ///   of the table.
+    /// - [`CheckpointError::Other`]: [`ErrorKind::NoMemory`], or [`ErrorKind::Misuse`] if this thread holds a prepared
+    ///   commit of the table.
     ///
     /// ```
     /// use narthexmace::{CheckpointPart, Options, Table};

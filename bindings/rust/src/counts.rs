@@ -20,7 +20,7 @@ pub struct Counts {
     pub folds: u64,
     /// Checkpoints installed.
     pub checkpoints: u64,
-    /// Checkpoints refused with [`Error::Superseded`](crate::Error::Superseded).
+    /// Checkpoints refused with [`ErrorKind::Superseded`](crate::ErrorKind::Superseded).
     pub superseded: u64,
     /// Pins that are open now.
     pub pins: usize,

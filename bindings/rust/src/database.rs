@@ -2,14 +2,15 @@
 use crate::arrow;
 use crate::cells::owned;
 use crate::columns::Passed;
-use crate::error::done;
+use crate::error::{done, refused};
 use crate::keeper::Keeper;
 use crate::opening::unfilled;
+use crate::sentences::Quoted;
 use crate::table::path_of;
 use crate::table_ref::{Handle, Handles};
 use crate::{
     ArrowArrayStream, ArrowRefusal, ColumnValues, ColumnsError, DatabaseCounts, DatabaseError, DatabaseOptions,
-    DatabaseTransaction, Error, OpenError, Options, Report, Table, TableFault, TableRef, ffi,
+    DatabaseTransaction, Error, ErrorKind, OpenError, Options, Report, Table, TableFault, TableRef, ffi,
 };
 use std::ffi::{CStr, c_char, c_int};
 use std::fmt;
@@ -72,17 +73,17 @@ impl Database {
     ///
     /// [`DatabaseError`] has the cause, and for damage the file or the commit:
     ///
-    /// - [`Error::Locked`]: this process or another has it open.
-    /// - [`Error::Corrupt`]: durable data is corrupt.
-    /// - [`Error::Incomplete`]: a file or a commit is missing.
-    /// - [`Error::Mismatch`]: the journal isn't the journal of these tables.
-    /// - [`Error::BadCheckpoint`], [`Error::NoCheckpoint`]: a checkpoint can't be read.
-    /// - [`Error::NewerFormat`]: a later version of the library wrote a file.
-    /// - [`Error::Missing`]: read-only, and there is no database in the folder.
-    /// - [`Error::Io`]: a file can't be created, written, synced or read.
-    /// - [`Error::BadLimit`]: an option is outside its range.
-    /// - [`Error::NoMemory`]: out of memory.
-    /// - [`Error::Misuse`]: the path is empty or has a zero byte.
+    /// - [`ErrorKind::Locked`]: this process or another has it open.
+    /// - [`ErrorKind::Corrupt`]: durable data is corrupt.
+    /// - [`ErrorKind::Incomplete`]: a file or a commit is missing.
+    /// - [`ErrorKind::Mismatch`]: the journal isn't the journal of these tables.
+    /// - [`ErrorKind::BadCheckpoint`], [`ErrorKind::NoCheckpoint`]: a checkpoint can't be read.
+    /// - [`ErrorKind::NewerFormat`]: a later version of the library wrote a file.
+    /// - [`ErrorKind::Missing`]: read-only, and there is no database in the folder.
+    /// - [`ErrorKind::Io`]: a file can't be created, written, synced or read.
+    /// - [`ErrorKind::BadLimit`]: an option is outside its range.
+    /// - [`ErrorKind::NoMemory`]: out of memory.
+    /// - [`ErrorKind::Misuse`]: the path is empty or has a zero byte.
     pub fn open(folder: impl AsRef<Path>, options: &DatabaseOptions) -> Result<(Database, Report), DatabaseError> {
         let folder = path_of(folder.as_ref())?;
         let options = options.passed()?;
@@ -110,17 +111,17 @@ impl Database {
     ///
     /// # Errors
     ///
-    /// - [`Error::Exists`]: a table of this name exists.
-    /// - [`Error::TypeMismatch`]: the name hasn't 1 to 64 bytes, or has one below 32 or 127.
+    /// - [`ErrorKind::Exists`]: a table of this name exists.
+    /// - [`ErrorKind::TypeMismatch`]: the name hasn't 1 to 64 bytes, or has one below 32 or 127.
     /// - [`OpenError::BadTable`]: the text isn't a table; it has the first fault.
-    /// - [`Error::TooManyRows`], [`Error::BadLimit`]: as of [`Table::open`].
-    /// - [`Error::Io`]: a file can't be written or synced.
-    /// - [`Error::WritesFailed`]: an earlier write failed.
-    /// - [`Error::Incomplete`]: as of [`maintain`](Database::maintain).
-    /// - [`Error::ReadOnly`]: the database was opened read-only.
-    /// - [`Error::NoMemory`]: out of memory. If this crate's allocator was refused, the table exists, and
+    /// - [`ErrorKind::TooManyRows`], [`ErrorKind::BadLimit`]: as of [`Table::open`].
+    /// - [`ErrorKind::Io`]: a file can't be written or synced.
+    /// - [`ErrorKind::WritesFailed`]: an earlier write failed.
+    /// - [`ErrorKind::Incomplete`]: as of [`maintain`](Database::maintain).
+    /// - [`ErrorKind::ReadOnly`]: the database was opened read-only.
+    /// - [`ErrorKind::NoMemory`]: out of memory. If this crate's allocator was refused, the table exists, and
     ///   [`table`](Database::table) returns it.
-    /// - [`Error::Misuse`]: this thread holds a prepared commit of the database.
+    /// - [`ErrorKind::Misuse`]: this thread holds a prepared commit of the database.
     pub fn create(&self, name: &str, csv: impl AsRef<[u8]>, options: &Options) -> Result<TableRef<'_>, OpenError> {
         let (passed, csv, options) = (name_of(name)?, csv.as_ref(), options.passed()?);
         let mut raw = ptr::null_mut();
@@ -190,8 +191,8 @@ impl Database {
     ///
     /// # Errors
     ///
-    /// - [`Error::Missing`]: no table has this name.
-    /// - [`Error::NoMemory`]: out of memory.
+    /// - [`ErrorKind::Missing`]: no table has this name.
+    /// - [`ErrorKind::NoMemory`]: out of memory.
     pub fn table(&self, name: &str) -> Result<TableRef<'_>, Error> {
         let (raw, handle) = taken(Keeper::Lent(self), name)?;
         // SAFETY: the handle is of this table.
@@ -203,8 +204,8 @@ impl Database {
     ///
     /// # Errors
     ///
-    /// - [`Error::Missing`]: no table has this name.
-    /// - [`Error::NoMemory`]: out of memory.
+    /// - [`ErrorKind::Missing`]: no table has this name.
+    /// - [`ErrorKind::NoMemory`]: out of memory.
     ///
     /// ```
     /// # fn run(folder: &std::path::Path) -> Result<(), narthexmace::Error> {
@@ -249,7 +250,7 @@ impl Database {
     ///
     /// # Errors
     ///
-    /// - [`Error::NoMemory`]: out of memory.
+    /// - [`ErrorKind::NoMemory`]: out of memory.
     pub fn names(&self) -> Result<Vec<String>, Error> {
         let tables = self.counts().tables;
         let mut names = Vec::new();
@@ -283,16 +284,16 @@ impl Database {
     ///
     /// # Errors
     ///
-    /// - [`Error::Missing`]: no table has this name.
-    /// - [`Error::Misuse`]: a [`TableRef`] or a [`table_shared`](Database::table_shared) of it is there, a database
+    /// - [`ErrorKind::Missing`]: no table has this name.
+    /// - [`ErrorKind::Misuse`]: a [`TableRef`] or a [`table_shared`](Database::table_shared) of it is there, a database
     ///   transaction is open that began when it existed, or this thread holds a prepared commit of the database.
-    /// - [`Error::Io`]: a file can't be written or synced; the table stays.
-    /// - [`Error::WritesFailed`]: an earlier write failed; the table stays.
-    /// - [`Error::Incomplete`]: as of [`maintain`](Database::maintain); the table stays.
-    /// - [`Error::ReadOnly`]: the database was opened read-only.
-    /// - [`Error::NoMemory`]: out of memory; the table stays.
+    /// - [`ErrorKind::Io`]: a file can't be written or synced; the table stays.
+    /// - [`ErrorKind::WritesFailed`]: an earlier write failed; the table stays.
+    /// - [`ErrorKind::Incomplete`]: as of [`maintain`](Database::maintain); the table stays.
+    /// - [`ErrorKind::ReadOnly`]: the database was opened read-only.
+    /// - [`ErrorKind::NoMemory`]: out of memory; the table stays.
     pub fn drop_table(&self, name: &str) -> Result<(), Error> {
-        let passed = name_of(name).map_err(|_| Error::Missing)?;
+        let passed = name_of(name).map_err(|_| unknown(name))?;
         let table = {
             let mut handles = self.handles();
             let table = self.find(&passed)? as usize;
@@ -319,7 +320,7 @@ impl Database {
     ///
     /// # Errors
     ///
-    /// - [`Error::NoMemory`]: out of memory.
+    /// - [`ErrorKind::NoMemory`]: out of memory.
     pub fn begin(&self) -> Result<DatabaseTransaction<'_>, Error> {
         DatabaseTransaction::begun(Keeper::Lent(self))
     }
@@ -329,7 +330,7 @@ impl Database {
     ///
     /// # Errors
     ///
-    /// - [`Error::NoMemory`]: out of memory.
+    /// - [`ErrorKind::NoMemory`]: out of memory.
     pub fn begin_shared(self: &Arc<Database>) -> Result<DatabaseTransaction<'static>, Error> {
         DatabaseTransaction::begun(Keeper::Shared(Arc::clone(self)))
     }
@@ -340,12 +341,13 @@ impl Database {
     ///
     /// # Errors
     ///
-    /// - [`Error::Io`]: a file can't be written or synced; it is due again.
-    /// - [`Error::WritesFailed`]: an earlier write failed, or the commits can't be made durable.
-    /// - [`Error::Incomplete`]: the next opening would miss a commit in what was to be written. Nothing was written.
-    /// - [`Error::ReadOnly`]: the database was opened read-only.
-    /// - [`Error::NoMemory`]: out of memory; it is due again.
-    /// - [`Error::Misuse`]: this thread holds a prepared commit of the database.
+    /// - [`ErrorKind::Io`]: a file can't be written or synced; it is due again.
+    /// - [`ErrorKind::WritesFailed`]: an earlier write failed, or the commits can't be made durable.
+    /// - [`ErrorKind::Incomplete`]: the next opening would miss a commit in what was to be written. Nothing was
+    ///   written.
+    /// - [`ErrorKind::ReadOnly`]: the database was opened read-only.
+    /// - [`ErrorKind::NoMemory`]: out of memory; it is due again.
+    /// - [`ErrorKind::Misuse`]: this thread holds a prepared commit of the database.
     pub fn maintain(&self) -> Result<(), Error> {
         // SAFETY: the database is open while `self` is there.
         done(unsafe { ffi::pdt_maintain(self.as_raw()) })
@@ -366,17 +368,17 @@ impl Database {
     ///
     /// # Errors
     ///
-    /// - [`Error::OutcomeUnknown`]: the last commits couldn't be made durable; the database is closed.
-    /// - [`Error::Misuse`]: a stream of [`Pin::arrow`](crate::Pin::arrow) isn't released, or a transaction, a pin or a
-    ///   database transaction was forgotten. The error has the database then, which may be closed again.
+    /// - [`ErrorKind::OutcomeUnknown`]: the last commits couldn't be made durable; the database is closed.
+    /// - [`ErrorKind::Misuse`]: a stream of [`Pin::arrow`](crate::Pin::arrow) isn't released, or a transaction, a pin
+    ///   or a database transaction was forgotten. The error has the database then, which may be closed again.
     pub fn close(mut self) -> Result<(), CloseError> {
         match self.end() {
             ffi::OK => Ok(()),
             ffi::MISUSE => {
                 self.is_closed = false;
-                Err(CloseError { error: Error::Misuse, database: Some(self) })
+                Err(CloseError { error: ErrorKind::Misuse.into(), database: Some(self) })
             }
-            code => Err(CloseError { error: done(code).err().unwrap_or(Error::Misuse), database: None }),
+            code => Err(CloseError { error: refused(code), database: None }),
         }
     }
 
@@ -391,7 +393,7 @@ impl Database {
 /// Why a database isn't closed, or isn't durable.
 #[derive(Debug)]
 pub struct CloseError {
-    /// [`Error::Misuse`], [`Error::OutcomeUnknown`].
+    /// [`ErrorKind::Misuse`], [`ErrorKind::OutcomeUnknown`].
     pub error: Error,
     /// The database, where it is still open.
     pub database: Option<Database>,
@@ -428,7 +430,7 @@ impl fmt::Debug for Database {
 
 /// The table of the table of a name, and a handle of it.
 fn taken<'d>(database: Keeper<'d, Database>, name: &str) -> Result<(*mut ffi::Table, Handle<'d>), Error> {
-    let name = name_of(name).map_err(|_| Error::Missing)?;
+    let name = name_of(name).map_err(|_| unknown(name))?;
     let raw = {
         let mut handles = database.handles();
         let raw = database.find(&name)?;
@@ -438,10 +440,21 @@ fn taken<'d>(database: Keeper<'d, Database>, name: &str) -> Result<(*mut ffi::Ta
     Ok((raw, Handle { database, table: raw as usize }))
 }
 
+/// A name that no table can have.
+fn unusable(name: &str) -> Error {
+    let (name, wanted) = (Quoted(name), "1 to 64 bytes of UTF-8 without control characters are wanted");
+    Error::with(ErrorKind::TypeMismatch, format_args!("a table can't have the name {name}: {wanted}"))
+}
+
+/// The name of no table.
+fn unknown(name: &str) -> Error {
+    Error::with(ErrorKind::Missing, format_args!("no table has the name {}", Quoted(name)))
+}
+
 /// A name and a zero, or `TypeMismatch` where a table can't have it.
-fn name_of(name: &str) -> Result<Name, Error> {
+pub(crate) fn name_of(name: &str) -> Result<Name, Error> {
     if name.is_empty() || name.len() > ffi::MAX_NAME || name.bytes().any(|byte| byte < 32 || byte == 127) {
-        return Err(Error::TypeMismatch);
+        return Err(unusable(name));
     }
     let mut passed: Name = [0; ffi::MAX_NAME + 1];
     passed.iter_mut().zip(name.bytes()).for_each(|(to, byte)| *to = byte as c_char);

@@ -4,7 +4,7 @@ use crate::keeper::Keeper;
 use crate::savepoints::Savepoints;
 use crate::transaction::sealed;
 use crate::transaction::{Ending, Transaction};
-use crate::{Database, DatabaseCommitError, Error, Refusal, Table, ffi};
+use crate::{Database, DatabaseCommitError, Error, ErrorKind, Refusal, Table, ffi};
 use std::cell::RefCell;
 use std::fmt;
 use std::ptr::{self, NonNull};
@@ -99,9 +99,9 @@ impl<'d> DatabaseTransaction<'d> {
     ///
     /// # Errors
     ///
-    /// - [`Error::Missing`]: the table was created after the database transaction began.
-    /// - [`Error::Misuse`]: a part over this table is there already, or the table isn't in this database.
-    /// - [`Error::NoMemory`]: out of memory; nothing changed.
+    /// - [`ErrorKind::Missing`]: the table was created after the database transaction began.
+    /// - [`ErrorKind::Misuse`]: a part over this table is there already, or the table isn't in this database.
+    /// - [`ErrorKind::NoMemory`]: out of memory; nothing changed.
     pub fn on<'w>(&'w self, table: &'w Table) -> Result<Part<'w>, Error> {
         let mut raw = ptr::null_mut();
         let mut parts = self.parts.borrow_mut();
@@ -113,7 +113,7 @@ impl<'d> DatabaseTransaction<'d> {
         if at == parts.len() {
             parts.push(Begun { txn, savepoints: Some(Savepoints::default()) });
         }
-        let savepoints = parts[at].savepoints.take().ok_or(Error::Misuse)?;
+        let savepoints = parts[at].savepoints.take().ok_or(ErrorKind::Misuse)?;
         // SAFETY: the transaction is over this table, and open as long as the database transaction, which is borrowed;
         // nothing else has it, since its savepoints were there.
         Ok(unsafe { Transaction::lent(txn, Keeper::Lent(table), savepoints, InDatabase { dbtxn: self, at }) })

@@ -1,14 +1,14 @@
 //! Why a call did not do what it was asked.
-use crate::{DatabaseTransaction, Transaction, ffi};
+use crate::{DatabaseTransaction, Transaction, ffi, sentences};
 use std::ffi::{CStr, c_int};
 use std::fmt;
 use std::io;
 
-/// Why a call failed: one variant for each code of `pdt.h`. Nothing has changed then, unless a variant says otherwise.
+/// The kinds of [`Error`]s: one for each code of `pdt.h`. Nothing has changed then, unless a variant says otherwise.
 /// docs/ERRORS.md in the repository has what to do.
-#[derive(Clone, Copy, Debug, PartialEq, Eq)]
+#[derive(Clone, Copy, Debug, PartialEq, Eq, Hash)]
 #[non_exhaustive]
-pub enum Error {
+pub enum ErrorKind {
     /// Out of memory.
     NoMemory,
     /// A concurrent commit modified the same data. The transaction is over.
@@ -76,74 +76,130 @@ pub enum Error {
     Unknown(i32),
 }
 
-impl Error {
+impl ErrorKind {
     fn code(self) -> c_int {
         match self {
-            Error::NoMemory => ffi::NOMEM,
-            Error::Conflict => ffi::CONFLICT,
-            Error::TooOld => ffi::TOO_OLD,
-            Error::Full => ffi::FULL,
-            Error::Duplicate => ffi::DUPLICATE,
-            Error::Missing => ffi::MISSING,
-            Error::TypeMismatch => ffi::SHAPE,
-            Error::BadTable => ffi::BAD_TABLE,
-            Error::BadLimit => ffi::BAD_LIMIT,
-            Error::TooManyRows => ffi::TOO_MANY_ROWS,
-            Error::TooSmall => ffi::TOO_SMALL,
-            Error::BadCheckpoint => ffi::BAD_STORE,
-            Error::NoCheckpoint => ffi::NO_IMAGE,
-            Error::Misuse => ffi::MISUSE,
-            Error::Io { .. } => ffi::IO,
-            Error::Exists => ffi::EXISTS,
-            Error::Superseded => ffi::SUPERSEDED,
-            Error::NotAscending => ffi::NOT_ASCENDING,
-            Error::DeviceFailed => ffi::DEVICE_FAILED,
-            Error::Locked => ffi::LOCKED,
-            Error::Corrupt => ffi::ROT,
-            Error::Incomplete => ffi::GAP,
-            Error::Mismatch => ffi::MISFIT,
-            Error::OutcomeUnknown => ffi::UNSURE,
-            Error::WritesFailed => ffi::FAILED,
-            Error::TooLong => ffi::TOO_LONG,
-            Error::ReadOnly => ffi::READONLY,
-            Error::NewerFormat => ffi::NEWER_FORMAT,
-            Error::Unknown(code) => code,
+            ErrorKind::NoMemory => ffi::NOMEM,
+            ErrorKind::Conflict => ffi::CONFLICT,
+            ErrorKind::TooOld => ffi::TOO_OLD,
+            ErrorKind::Full => ffi::FULL,
+            ErrorKind::Duplicate => ffi::DUPLICATE,
+            ErrorKind::Missing => ffi::MISSING,
+            ErrorKind::TypeMismatch => ffi::SHAPE,
+            ErrorKind::BadTable => ffi::BAD_TABLE,
+            ErrorKind::BadLimit => ffi::BAD_LIMIT,
+            ErrorKind::TooManyRows => ffi::TOO_MANY_ROWS,
+            ErrorKind::TooSmall => ffi::TOO_SMALL,
+            ErrorKind::BadCheckpoint => ffi::BAD_STORE,
+            ErrorKind::NoCheckpoint => ffi::NO_IMAGE,
+            ErrorKind::Misuse => ffi::MISUSE,
+            ErrorKind::Io { .. } => ffi::IO,
+            ErrorKind::Exists => ffi::EXISTS,
+            ErrorKind::Superseded => ffi::SUPERSEDED,
+            ErrorKind::NotAscending => ffi::NOT_ASCENDING,
+            ErrorKind::DeviceFailed => ffi::DEVICE_FAILED,
+            ErrorKind::Locked => ffi::LOCKED,
+            ErrorKind::Corrupt => ffi::ROT,
+            ErrorKind::Incomplete => ffi::GAP,
+            ErrorKind::Mismatch => ffi::MISFIT,
+            ErrorKind::OutcomeUnknown => ffi::UNSURE,
+            ErrorKind::WritesFailed => ffi::FAILED,
+            ErrorKind::TooLong => ffi::TOO_LONG,
+            ErrorKind::ReadOnly => ffi::READONLY,
+            ErrorKind::NewerFormat => ffi::NEWER_FORMAT,
+            ErrorKind::Unknown(code) => code,
         }
     }
 
-    /// The error of a code other than `OK`. Called right after the call that answered it, since an `IO` reads errno.
-    fn of(code: c_int) -> Error {
+    /// The kind of a code other than `OK`. Called right after the call that answered it, since an `IO` reads errno.
+    fn of(code: c_int) -> ErrorKind {
         match code {
-            ffi::NOMEM => Error::NoMemory,
-            ffi::CONFLICT => Error::Conflict,
-            ffi::TOO_OLD => Error::TooOld,
-            ffi::FULL => Error::Full,
-            ffi::DUPLICATE => Error::Duplicate,
-            ffi::MISSING => Error::Missing,
-            ffi::SHAPE => Error::TypeMismatch,
-            ffi::BAD_TABLE => Error::BadTable,
-            ffi::BAD_LIMIT => Error::BadLimit,
-            ffi::TOO_MANY_ROWS => Error::TooManyRows,
-            ffi::TOO_SMALL => Error::TooSmall,
-            ffi::BAD_STORE => Error::BadCheckpoint,
-            ffi::NO_IMAGE => Error::NoCheckpoint,
-            ffi::MISUSE => Error::Misuse,
-            ffi::IO => Error::Io { errno: io::Error::last_os_error().raw_os_error().unwrap_or(0) },
-            ffi::EXISTS => Error::Exists,
-            ffi::SUPERSEDED => Error::Superseded,
-            ffi::NOT_ASCENDING => Error::NotAscending,
-            ffi::DEVICE_FAILED => Error::DeviceFailed,
-            ffi::LOCKED => Error::Locked,
-            ffi::ROT => Error::Corrupt,
-            ffi::GAP => Error::Incomplete,
-            ffi::MISFIT => Error::Mismatch,
-            ffi::UNSURE => Error::OutcomeUnknown,
-            ffi::FAILED => Error::WritesFailed,
-            ffi::TOO_LONG => Error::TooLong,
-            ffi::READONLY => Error::ReadOnly,
-            ffi::NEWER_FORMAT => Error::NewerFormat,
-            code => Error::Unknown(code),
+            ffi::NOMEM => ErrorKind::NoMemory,
+            ffi::CONFLICT => ErrorKind::Conflict,
+            ffi::TOO_OLD => ErrorKind::TooOld,
+            ffi::FULL => ErrorKind::Full,
+            ffi::DUPLICATE => ErrorKind::Duplicate,
+            ffi::MISSING => ErrorKind::Missing,
+            ffi::SHAPE => ErrorKind::TypeMismatch,
+            ffi::BAD_TABLE => ErrorKind::BadTable,
+            ffi::BAD_LIMIT => ErrorKind::BadLimit,
+            ffi::TOO_MANY_ROWS => ErrorKind::TooManyRows,
+            ffi::TOO_SMALL => ErrorKind::TooSmall,
+            ffi::BAD_STORE => ErrorKind::BadCheckpoint,
+            ffi::NO_IMAGE => ErrorKind::NoCheckpoint,
+            ffi::MISUSE => ErrorKind::Misuse,
+            ffi::IO => ErrorKind::Io { errno: io::Error::last_os_error().raw_os_error().unwrap_or(0) },
+            ffi::EXISTS => ErrorKind::Exists,
+            ffi::SUPERSEDED => ErrorKind::Superseded,
+            ffi::NOT_ASCENDING => ErrorKind::NotAscending,
+            ffi::DEVICE_FAILED => ErrorKind::DeviceFailed,
+            ffi::LOCKED => ErrorKind::Locked,
+            ffi::ROT => ErrorKind::Corrupt,
+            ffi::GAP => ErrorKind::Incomplete,
+            ffi::MISFIT => ErrorKind::Mismatch,
+            ffi::UNSURE => ErrorKind::OutcomeUnknown,
+            ffi::FAILED => ErrorKind::WritesFailed,
+            ffi::TOO_LONG => ErrorKind::TooLong,
+            ffi::READONLY => ErrorKind::ReadOnly,
+            ffi::NEWER_FORMAT => ErrorKind::NewerFormat,
+            code => ErrorKind::Unknown(code),
         }
+    }
+}
+
+/// The sentence of the kind alone.
+impl fmt::Display for ErrorKind {
+    fn fmt(&self, f: &mut fmt::Formatter<'_>) -> fmt::Result {
+        // SAFETY: the text of a code is never null, ends with a zero, and is there as long as the program.
+        let text = unsafe { CStr::from_ptr(ffi::pdt_code_text(self.code())) };
+        f.write_str(&text.to_string_lossy())?;
+        match self {
+            ErrorKind::Io { errno } => write!(f, ": {}", io::Error::from_raw_os_error(*errno)),
+            _ => Ok(()),
+        }
+    }
+}
+
+/// Why a call failed: a kind to match on, and a sentence for people. The sentence names the column, the value, the type
+/// that is wanted and the key, as far as the call knows them; it is what [`Display`](fmt::Display) writes.
+///
+/// Two errors are equal if their kinds are, whatever their sentences say, and an error may be compared with a kind.
+///
+/// ```
+/// use narthexmace::{Error, ErrorKind, Options, Table};
+/// let table = Table::open("id:int:key,name:text\n7,Ann\n", &Options::default())?;
+/// let error = table.begin()?.delete([8]).unwrap_err();
+/// assert_eq!(error, ErrorKind::Missing);
+/// assert_eq!("no row has the key id=8", error.to_string());
+/// # Ok::<(), Error>(())
+/// ```
+#[derive(Clone)]
+pub struct Error {
+    kind: ErrorKind,
+    /// None where it is the kind's, or memory was refused.
+    sentence: Option<Box<str>>,
+}
+
+impl Error {
+    /// The kind.
+    pub fn kind(&self) -> ErrorKind {
+        self.kind
+    }
+
+    /// An error with a sentence.
+    pub(crate) fn with(kind: ErrorKind, sentence: fmt::Arguments<'_>) -> Error {
+        Error { kind, sentence: sentences::spelt(sentence) }
+    }
+
+    /// The error of a code other than `OK`, with the library's sentence. Called right after the call that answered it.
+    fn of(code: c_int) -> Error {
+        let kind = ErrorKind::of(code);
+        // SAFETY: neither sentence is ever null; they end with a zero, and no other call is made meanwhile.
+        let sentence = unsafe {
+            let (plain, told) = (ffi::pdt_code_text(code), ffi::pdt_errmsg(code));
+            (plain != told).then(|| CStr::from_ptr(told))
+        };
+        Error { kind, sentence: sentence.and_then(|told| told.to_str().ok()).and_then(sentences::boxed) }
     }
 }
 
@@ -152,28 +208,67 @@ pub(crate) fn done(code: c_int) -> Result<(), Error> {
     if code == ffi::OK { Ok(()) } else { Err(Error::of(code)) }
 }
 
+/// The error of a code that isn't `OK`: see [`done`].
+pub(crate) fn refused(code: c_int) -> Error {
+    Error::of(code)
+}
+
 impl fmt::Display for Error {
     fn fmt(&self, f: &mut fmt::Formatter<'_>) -> fmt::Result {
-        // SAFETY: the text of a code is never null, ends with a zero, and is there as long as the program.
-        let text = unsafe { CStr::from_ptr(ffi::pdt_code_text(self.code())) };
-        f.write_str(&text.to_string_lossy())?;
-        match self {
-            Error::Io { errno } => write!(f, ": {}", io::Error::from_raw_os_error(*errno)),
-            _ => Ok(()),
+        match &self.sentence {
+            Some(sentence) => f.write_str(sentence),
+            None => self.kind.fmt(f),
+        }
+    }
+}
+
+impl fmt::Debug for Error {
+    fn fmt(&self, f: &mut fmt::Formatter<'_>) -> fmt::Result {
+        match &self.sentence {
+            Some(sentence) => write!(f, "{:?}: {sentence}", self.kind),
+            None => self.kind.fmt(f),
         }
     }
 }
 
 impl std::error::Error for Error {}
 
-impl From<std::collections::TryReserveError> for Error {
-    fn from(_: std::collections::TryReserveError) -> Error {
-        Error::NoMemory
+impl PartialEq for Error {
+    fn eq(&self, other: &Error) -> bool {
+        self.kind == other.kind
     }
 }
 
-/// The first fault of text that isn't a table.
-#[derive(Clone, Copy, Debug, PartialEq, Eq)]
+impl Eq for Error {}
+
+impl PartialEq<ErrorKind> for Error {
+    fn eq(&self, kind: &ErrorKind) -> bool {
+        self.kind == *kind
+    }
+}
+
+impl PartialEq<Error> for ErrorKind {
+    fn eq(&self, error: &Error) -> bool {
+        *self == error.kind
+    }
+}
+
+/// An error with the sentence of its kind.
+impl From<ErrorKind> for Error {
+    fn from(kind: ErrorKind) -> Error {
+        Error { kind, sentence: None }
+    }
+}
+
+impl From<std::collections::TryReserveError> for Error {
+    fn from(_: std::collections::TryReserveError) -> Error {
+        ErrorKind::NoMemory.into()
+    }
+}
+
+/// The first fault of text that isn't a table. [`Display`](fmt::Display) writes a sentence with the place.
+#[derive(Clone, Debug, PartialEq, Eq)]
+#[non_exhaustive]
 pub struct TableFault {
     /// The record, from 1 with the header.
     pub record: u64,
@@ -181,23 +276,31 @@ pub struct TableFault {
     pub column: u64,
     /// The cause, in English.
     pub cause: &'static str,
+    error: Error,
 }
 
 impl TableFault {
     /// The fault that the library has found in a text.
     ///
     /// # Safety
-    /// `pdt_open_csv` has returned `BAD_TABLE`, and written the fault.
+    /// `pdt_open_csv` has just returned `BAD_TABLE`, and written the fault.
     pub(crate) unsafe fn told(fault: &ffi::Fault) -> TableFault {
+        let error = Error::of(ffi::BAD_TABLE);
         // SAFETY: the cause is never null then, ends with a zero, and is there as long as the program.
         let cause = unsafe { CStr::from_ptr::<'static>(fault.cause) };
         let ffi::Place { row, column } = fault.place;
-        TableFault { record: row, column, cause: cause.to_str().unwrap_or("no table") }
+        TableFault { record: row, column, cause: cause.to_str().unwrap_or("no table"), error }
+    }
+}
+
+impl fmt::Display for TableFault {
+    fn fmt(&self, f: &mut fmt::Formatter<'_>) -> fmt::Result {
+        self.error.fmt(f)
     }
 }
 
 /// Why a table can't be opened over text.
-#[derive(Clone, Copy, Debug, PartialEq, Eq)]
+#[derive(Clone, Debug, PartialEq, Eq)]
 pub enum OpenError {
     /// The text isn't a table.
     BadTable(TableFault),
@@ -214,7 +317,7 @@ impl From<Error> for OpenError {
 impl From<OpenError> for Error {
     fn from(error: OpenError) -> Error {
         match error {
-            OpenError::BadTable(_) => Error::BadTable,
+            OpenError::BadTable(fault) => fault.error,
             OpenError::Other(error) => error,
         }
     }
@@ -222,12 +325,9 @@ impl From<OpenError> for Error {
 
 impl fmt::Display for OpenError {
     fn fmt(&self, f: &mut fmt::Formatter<'_>) -> fmt::Result {
-        Error::from(*self).fmt(f)?;
         match self {
-            OpenError::BadTable(TableFault { record, column, cause }) => {
-                write!(f, ": record {record}, column {column}: {cause}")
-            }
-            OpenError::Other(_) => Ok(()),
+            OpenError::BadTable(fault) => fault.fmt(f),
+            OpenError::Other(error) => error.fmt(f),
         }
     }
 }
@@ -289,24 +389,29 @@ impl<T> Refusal<T> {
 
     /// The error without the number, and without what is given back.
     pub fn error(&self) -> Error {
+        self.kind().into()
+    }
+
+    /// Its kind.
+    pub fn kind(&self) -> ErrorKind {
         match self {
-            Refusal::Conflict(_) => Error::Conflict,
-            Refusal::TooOld(_) => Error::TooOld,
-            Refusal::Full(_) => Error::Full,
-            Refusal::OutcomeUnknown => Error::OutcomeUnknown,
-            Refusal::NoMemory(_) => Error::NoMemory,
-            Refusal::Misuse(_) => Error::Misuse,
-            Refusal::WritesFailed(_) => Error::WritesFailed,
-            Refusal::TooLong(_) => Error::TooLong,
-            Refusal::ReadOnly(_) => Error::ReadOnly,
-            Refusal::Unknown(code) => Error::Unknown(*code),
+            Refusal::Conflict(_) => ErrorKind::Conflict,
+            Refusal::TooOld(_) => ErrorKind::TooOld,
+            Refusal::Full(_) => ErrorKind::Full,
+            Refusal::OutcomeUnknown => ErrorKind::OutcomeUnknown,
+            Refusal::NoMemory(_) => ErrorKind::NoMemory,
+            Refusal::Misuse(_) => ErrorKind::Misuse,
+            Refusal::WritesFailed(_) => ErrorKind::WritesFailed,
+            Refusal::TooLong(_) => ErrorKind::TooLong,
+            Refusal::ReadOnly(_) => ErrorKind::ReadOnly,
+            Refusal::Unknown(code) => ErrorKind::Unknown(*code),
         }
     }
 }
 
 impl<T> fmt::Display for Refusal<T> {
     fn fmt(&self, f: &mut fmt::Formatter<'_>) -> fmt::Result {
-        self.error().fmt(f)
+        self.kind().fmt(f)
     }
 }
 
@@ -324,25 +429,41 @@ mod tests {
     use super::*;
 
     #[test]
-    fn each_code_has_a_variant_and_a_sentence() {
+    fn each_code_has_a_kind_and_a_sentence() {
         for code in ffi::NOMEM..=ffi::READONLY {
-            let error = Error::of(code);
-            assert_eq!(code, error.code());
-            assert_ne!("no such code", error.to_string());
+            let kind = ErrorKind::of(code);
+            assert_eq!(code, kind.code());
+            assert_ne!("no such code", kind.to_string());
+            assert_eq!(kind.to_string(), Error::from(kind).to_string());
         }
     }
 
     #[test]
     fn a_code_of_a_later_library_is_unknown() {
         let later = ffi::READONLY + 1;
-        assert_eq!((Error::Unknown(later), later), (Error::of(later), Error::of(later).code()));
+        assert_eq!((ErrorKind::Unknown(later), later), (ErrorKind::of(later), ErrorKind::of(later).code()));
         assert_eq!("no such code", Error::of(later).to_string());
         assert!(matches!(Refusal::of(later, 7, ()), (Refusal::Unknown(code), Some(())) if code == later));
     }
 
     #[test]
     fn a_file_that_failed_says_why() {
-        let text = Error::Io { errno: 2 }.to_string();
+        let text = Error::from(ErrorKind::Io { errno: 2 }).to_string();
         assert_eq!("a file failed: No such file or directory (os error 2)", text);
+    }
+
+    #[test]
+    fn a_result_stays_small() {
+        assert!(size_of::<Result<(), Error>>() <= 3 * size_of::<usize>());
+    }
+
+    #[test]
+    fn errors_are_equal_by_their_kinds() {
+        let told = Error::with(ErrorKind::Missing, format_args!("no row has the key id=8"));
+        assert_eq!((true, true), (told == ErrorKind::Missing, ErrorKind::Missing == told));
+        assert_eq!((Error::from(ErrorKind::Missing), ErrorKind::Missing), (told.clone(), told.kind()));
+        assert_ne!(Error::from(ErrorKind::Duplicate), told);
+        assert_eq!("Missing: no row has the key id=8", format!("{told:?}"));
+        assert_eq!("Missing", format!("{:?}", Error::from(ErrorKind::Missing)));
     }
 }

@@ -60,6 +60,14 @@ pub struct Sizes {
 }
 
 #[repr(C)]
+pub struct Plain {
+    pub size: usize,
+    pub key: *const *const c_char,
+    pub key_count: usize,
+    pub sample: usize,
+}
+
+#[repr(C)]
 #[derive(Default)]
 pub struct Counts {
     pub size: usize,
@@ -195,7 +203,27 @@ pub const MAX_TEXT: usize = 4096;
 unsafe extern "C" {
     pub fn pdt_version() -> *const c_char;
     pub fn pdt_code_text(code: c_int) -> *const c_char;
+    pub fn pdt_errmsg(code: c_int) -> *const c_char;
 
+    pub fn pdt_csv_has_types(csv: *const c_void, bytes: usize, has: *mut bool) -> c_int;
+    pub fn pdt_open_plain(
+        csv: *const c_void,
+        bytes: usize,
+        plain: *const Plain,
+        options: *const Options,
+        fault: *mut Fault,
+        table: *mut *mut Table,
+    ) -> c_int;
+    pub fn pdt_table_create_plain(
+        database: *mut Database,
+        name: *const c_char,
+        csv: *const c_void,
+        bytes: usize,
+        plain: *const Plain,
+        options: *const Options,
+        fault: *mut Fault,
+        table: *mut *mut Table,
+    ) -> c_int;
     pub fn pdt_open_csv(
         csv: *const c_void,
         bytes: usize,

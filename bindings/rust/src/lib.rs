@@ -40,13 +40,25 @@
 //!
 //! # Memory
 //!
-//! If memory is refused, also to this crate, a call returns [`Error::NoMemory`], and the table and the transaction are
-//! unchanged.
+//! If memory is refused, also to this crate, a call returns [`ErrorKind::NoMemory`], and the table and the transaction
+//! are unchanged.
 //!
 //! # Errors
 //!
-//! [`Error`] has a variant for each cause. Each call lists those that it returns. After an error nothing has changed,
-//! unless the call says otherwise.
+//! An [`Error`] has a kind to match on, and a sentence with the column, the value and the key. Each call lists the kinds
+//! that it returns. After an error nothing has changed, unless the call says otherwise.
+//!
+//! ```
+//! # use narthexmace::{Error, ErrorKind, Options, Table, cells};
+//! # let table = Table::open("id:int:key,qty:int\n7,1\n", &Options::default())?;
+//! let mut txn = table.begin()?;
+//! match txn.insert([7, 2]) {
+//!     Err(error) if error == ErrorKind::Duplicate => txn.set([7], 1, 2)?,
+//!     answer => answer?,
+//! }
+//! assert_eq!("column \"qty\": \"x\" is not an int", txn.set([7], 1, "x").unwrap_err().to_string());
+//! # Ok::<(), Error>(())
+//! ```
 //!
 //! # What doesn't compile
 //!
@@ -298,10 +310,12 @@ mod keeper;
 mod opening;
 mod options;
 mod pin;
+mod plain;
 mod prepared;
 mod reads;
 mod row_runs;
 mod savepoints;
+mod sentences;
 mod table;
 mod table_ref;
 mod texts;
@@ -316,10 +330,11 @@ pub use columns::{CheckpointError, CheckpointPart, ColumnValues, ColumnsError};
 pub use counts::Counts;
 pub use database::{CloseError, Database};
 pub use database_transaction::{DatabaseTransaction, InDatabase, Part};
-pub use error::{CommitError, DatabaseCommitError, Error, OpenError, Refusal, TableFault};
+pub use error::{CommitError, DatabaseCommitError, Error, ErrorKind, OpenError, Refusal, TableFault};
 pub use opening::{DatabaseCounts, DatabaseError, DatabaseOptions, Report, SyncMode};
 pub use options::{ConflictRule, Options};
 pub use pin::Pin;
+pub use plain::{PlainCsv, csv_has_types};
 pub use prepared::Prepared;
 pub use row_runs::{RowRun, RowRuns};
 pub use savepoints::Savepoint;

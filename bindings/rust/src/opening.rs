@@ -1,6 +1,6 @@
 //! The options of a database, the report of its opening, and why an opening is refused.
 use crate::cells::owned;
-use crate::{Error, ffi};
+use crate::{Error, ErrorKind, ffi};
 use std::fmt;
 
 /// The failures that an acknowledged commit of a database survives.
@@ -28,7 +28,7 @@ pub struct DatabaseOptions {
     /// [`Database::maintain`](crate::Database::maintain) does what is due.
     pub maintenance: bool,
     /// Whether nothing in the folder is created or changed; false by default. Several processes may then have it open.
-    /// Calls that would write return [`Error::ReadOnly`].
+    /// Calls that would write return [`ErrorKind::ReadOnly`].
     pub read_only: bool,
     /// How many entries of a Write-PDT are folded; 1,024 by default.
     pub fold_entries: u64,
@@ -64,8 +64,17 @@ impl DatabaseOptions {
     /// For the library, to which a zero stands for the default: here it is a limit outside its range.
     pub(crate) fn passed(&self) -> Result<ffi::DatabaseOptions, Error> {
         let DatabaseOptions { fold_entries, checkpoint_entries, journal_bytes, kept_bytes, mode, .. } = *self;
-        if [fold_entries, checkpoint_entries, journal_bytes, kept_bytes, u64::from(mode)].contains(&0) || mode > 0o777 {
-            return Err(Error::BadLimit);
+        let counts = [
+            ("fold_entries", fold_entries),
+            ("checkpoint_entries", checkpoint_entries),
+            ("journal_bytes", journal_bytes),
+            ("kept_bytes", kept_bytes),
+        ];
+        if let Some((name, _)) = counts.iter().find(|(_, count)| *count == 0) {
+            return Err(Error::with(ErrorKind::BadLimit, format_args!("{name} is 0: 1 or more is wanted")));
+        }
+        if mode == 0 || mode > 0o777 {
+            return Err(Error::with(ErrorKind::BadLimit, format_args!("mode is {mode:#o}: 0o1 to 0o777 is wanted")));
         }
         let sync = match self.sync {
             SyncMode::Full => ffi::SYNC_FULL,

@@ -1,5 +1,5 @@
 //! What a table is opened with.
-use crate::{Error, ffi};
+use crate::{Error, ErrorKind, ffi};
 
 /// The limits of a table.
 #[derive(Clone, Copy, Debug, PartialEq, Eq)]
@@ -31,8 +31,11 @@ impl Default for Options {
 impl Options {
     /// For the library, to which a zero stands for the default: here it is a limit outside its range.
     pub(crate) fn passed(&self) -> Result<ffi::Options, Error> {
-        if self.recent == 0 || self.row_limit == 0 {
-            return Err(Error::BadLimit);
+        if self.recent == 0 {
+            return Err(Error::with(ErrorKind::BadLimit, format_args!("recent is 0: 1 to 65,536 is wanted")));
+        }
+        if self.row_limit == 0 {
+            return Err(Error::with(ErrorKind::BadLimit, format_args!("row_limit is 0: 1 to 2,147,483,647 is wanted")));
         }
         let by_row = self.conflicts == ConflictRule::ByRow;
         let size = size_of::<ffi::Options>();

@@ -1,4 +1,6 @@
 //! Versions that are kept.
+#[cfg(doc)]
+use crate::ErrorKind;
 use crate::error::done;
 use crate::keeper::Keeper;
 use crate::{Error, Table, Transaction, ffi};
@@ -61,7 +63,7 @@ impl<'s> Pin<'s> {
     ///
     /// # Errors
     ///
-    /// - [`Error::NoMemory`]: out of memory; nothing changed.
+    /// - [`ErrorKind::NoMemory`]: out of memory; nothing changed.
     pub fn begin(&self) -> Result<Transaction<'s>, Error> {
         let mut raw = ptr::null_mut();
         // SAFETY: the pin is not let go, and its table is kept, and so is open.

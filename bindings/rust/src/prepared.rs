@@ -9,7 +9,7 @@ use std::marker::PhantomData;
 ///
 /// It holds the table's lock, and so it stays on its thread. Commits of other threads wait, and so do their folds and
 /// checkpoints; begins and pins don't, and see the version before. Other calls of this thread on the table return
-/// [`Error::Misuse`](crate::Error::Misuse), except for begins and pins, reads of the columns, [`Table::sizes`],
+/// [`ErrorKind::Misuse`](crate::ErrorKind::Misuse), except for begins and pins, reads of the columns, [`Table::sizes`],
 /// [`Table::counts`] and [`Table::wait`]; [`Table::trim`] panics. Threads that call on other tables meanwhile do so in
 /// one order of the tables: else they deadlock. One that is forgotten ([`std::mem::forget`]) keeps the lock: other
 /// threads' commits, and the table's drop by one of them, never return.

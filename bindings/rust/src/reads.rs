@@ -1,10 +1,12 @@
 //! What a transaction reads.
+#[cfg(doc)]
+use crate::ErrorKind;
 use crate::batch::{self, Batch, Batches};
 use crate::cells::{filled, row_of};
 use crate::error::done;
 use crate::table::ColumnType;
 use crate::transaction::{Ending, Rank, TEXT_ROOM};
-use crate::{CellRef, Error, Row, RowRuns, Transaction, ffi, texts};
+use crate::{CellRef, Error, Row, RowRuns, Transaction, ffi, sentences, texts};
 use std::ffi::{c_int, c_void};
 use std::ops::{Bound, RangeBounds};
 
@@ -23,8 +25,8 @@ impl<E: Ending> Transaction<'_, E> {
     ///
     /// # Errors
     ///
-    /// - [`Error::TypeMismatch`]: the key doesn't fit the key columns.
-    /// - [`Error::NoMemory`]: out of memory; nothing changed.
+    /// - [`ErrorKind::TypeMismatch`]: the key doesn't fit the key columns.
+    /// - [`ErrorKind::NoMemory`]: out of memory; nothing changed.
     pub fn rank<'c, C: Into<CellRef<'c>>>(&self, key: impl IntoIterator<Item = C>) -> Result<Rank, Error> {
         let key = self.key(key)?;
         let mut rank = Rank { below: 0, there: false };
@@ -38,8 +40,8 @@ impl<E: Ending> Transaction<'_, E> {
     ///
     /// # Errors
     ///
-    /// - [`Error::TypeMismatch`]: the key doesn't fit the key columns.
-    /// - [`Error::NoMemory`]: out of memory; nothing changed.
+    /// - [`ErrorKind::TypeMismatch`]: the key doesn't fit the key columns.
+    /// - [`ErrorKind::NoMemory`]: out of memory; nothing changed.
     pub fn get<'c, C: Into<CellRef<'c>>>(&self, key: impl IntoIterator<Item = C>) -> Result<Option<Row>, Error> {
         let key = self.key(key)?;
         self.read_row(|numbers, out, room, needed| {
@@ -53,7 +55,7 @@ impl<E: Ending> Transaction<'_, E> {
     ///
     /// # Errors
     ///
-    /// - [`Error::NoMemory`]: out of memory; nothing changed.
+    /// - [`ErrorKind::NoMemory`]: out of memory; nothing changed.
     pub fn row_at(&self, position: u64) -> Result<Option<Row>, Error> {
         self.read_row(|numbers, out, room, needed| {
             // SAFETY: the transaction is open; `read_row` hands in room for a row.
@@ -65,8 +67,8 @@ impl<E: Ending> Transaction<'_, E> {
     ///
     /// # Errors
     ///
-    /// - [`Error::TypeMismatch`]: there is no such column.
-    /// - [`Error::NoMemory`]: out of memory; nothing changed.
+    /// - [`ErrorKind::TypeMismatch`]: there is no such column.
+    /// - [`ErrorKind::NoMemory`]: out of memory; nothing changed.
     pub fn batch(&self, columns: &[usize], positions: impl RangeBounds<u64>) -> Result<Batch<'_>, Error> {
         let (from, to) = self.within(positions);
         Batch::read(&self.open, columns, from, to)
@@ -77,8 +79,8 @@ impl<E: Ending> Transaction<'_, E> {
     ///
     /// # Errors
     ///
-    /// - [`Error::TypeMismatch`]: there is no such column.
-    /// - [`Error::NoMemory`]: out of memory, here or for a batch, after which none comes.
+    /// - [`ErrorKind::TypeMismatch`]: there is no such column.
+    /// - [`ErrorKind::NoMemory`]: out of memory, here or for a batch, after which none comes.
     ///
     /// ```
     /// use narthexmace::{Error, Options, Table};
@@ -106,8 +108,8 @@ impl<E: Ending> Transaction<'_, E> {
     ///
     /// # Errors
     ///
-    /// - [`Error::TypeMismatch`]: there is no such column, or it isn't a text column.
-    /// - [`Error::NoMemory`]: out of memory; nothing changed.
+    /// - [`ErrorKind::TypeMismatch`]: there is no such column, or it isn't a text column.
+    /// - [`ErrorKind::NoMemory`]: out of memory; nothing changed.
     ///
     /// ```
     /// use narthexmace::{Error, Options, Table};
@@ -127,7 +129,7 @@ impl<E: Ending> Transaction<'_, E> {
     ///
     /// # Errors
     ///
-    /// - [`Error::TypeMismatch`]: there is no such column, or it isn't an int column.
+    /// - [`ErrorKind::TypeMismatch`]: there is no such column, or it isn't an int column.
     ///
     /// ```
     /// use narthexmace::{Error, Options, Table};
@@ -139,9 +141,7 @@ impl<E: Ending> Transaction<'_, E> {
     /// # Ok::<(), Error>(())
     /// ```
     pub fn ints(&self, column: usize, from: u64, numbers: &mut [i64]) -> Result<usize, Error> {
-        if self.table().columns().get(column).ok_or(Error::TypeMismatch)?.column_type != ColumnType::Int {
-            return Err(Error::TypeMismatch);
-        }
+        sentences::column_of(self.table().columns(), column, ColumnType::Int)?;
         batch::numbers(&self.open, column, from, numbers)
     }
 
@@ -150,7 +150,7 @@ impl<E: Ending> Transaction<'_, E> {
     ///
     /// # Errors
     ///
-    /// - [`Error::TypeMismatch`]: there is no such column, or it isn't a bool column.
+    /// - [`ErrorKind::TypeMismatch`]: there is no such column, or it isn't a bool column.
     ///
     /// ```
     /// use narthexmace::{Error, Options, Table};
@@ -162,9 +162,7 @@ impl<E: Ending> Transaction<'_, E> {
     /// # Ok::<(), Error>(())
     /// ```
     pub fn bools(&self, column: usize, from: u64, booleans: &mut [u8]) -> Result<usize, Error> {
-        if self.table().columns().get(column).ok_or(Error::TypeMismatch)?.column_type != ColumnType::Bool {
-            return Err(Error::TypeMismatch);
-        }
+        sentences::column_of(self.table().columns(), column, ColumnType::Bool)?;
         batch::booleans(&self.open, column, from, booleans)
     }
 
@@ -211,8 +209,8 @@ impl<E: Ending> Transaction<'_, E> {
     ///
     /// # Errors
     ///
-    /// - [`Error::Missing`]: the position is past the end.
-    /// - [`Error::NoMemory`]: out of memory; nothing changed.
+    /// - [`ErrorKind::Missing`]: the position is past the end.
+    /// - [`ErrorKind::NoMemory`]: out of memory; nothing changed.
     pub fn changed(&self, position: u64) -> Result<Vec<bool>, Error> {
         let mut bytes = [0u8; ffi::MAX_COLUMNS];
         let width = self.table().columns().len();

@@ -1,5 +1,5 @@
 //! The savepoints of a transaction.
-use crate::Error;
+use crate::{Error, ErrorKind};
 use std::sync::atomic::{AtomicU64, Ordering};
 
 /// A place in a transaction's writes, to which [`Transaction::rollback_to`](crate::Transaction::rollback_to) rolls
@@ -33,7 +33,7 @@ impl Savepoints {
     pub(crate) fn level(&self, savepoint: &Savepoint) -> Result<usize, Error> {
         match self.0.get(savepoint.level) {
             Some(number) if *number == savepoint.number => Ok(savepoint.level),
-            _ => Err(Error::Missing),
+            _ => Err(Error::with(ErrorKind::Missing, format_args!("the savepoint is gone"))),
         }
     }
 

@@ -3,7 +3,7 @@ use crate::cells::owned;
 use crate::error::done;
 use crate::keeper::Keeper;
 use crate::table_ref::Handle;
-use crate::{Checkpoint, Counts, Error, OpenError, Options, Pin, TableFault, Transaction, ffi};
+use crate::{Checkpoint, Counts, Error, ErrorKind, OpenError, Options, Pin, TableFault, Transaction, ffi};
 use std::ffi::{CStr, c_char, c_int};
 use std::fmt;
 use std::os::unix::ffi::OsStrExt;
@@ -91,9 +91,9 @@ impl Table {
     /// # Errors
     ///
     /// - [`OpenError::BadTable`]: the text isn't a table; it has the first fault.
-    /// - [`Error::TooManyRows`]: more rows than [`Options::row_limit`].
-    /// - [`Error::BadLimit`]: an option is outside its range.
-    /// - [`Error::NoMemory`]: out of memory.
+    /// - [`ErrorKind::TooManyRows`]: more rows than [`Options::row_limit`].
+    /// - [`ErrorKind::BadLimit`]: an option is outside its range.
+    /// - [`ErrorKind::NoMemory`]: out of memory.
     ///
     /// ```
     /// use narthexmace::{ColumnType, Error, OpenError, Options, Table};
@@ -128,14 +128,14 @@ impl Table {
     ///
     /// # Errors
     ///
-    /// - [`Error::Io`]: a file can't be read.
-    /// - [`Error::BadTable`]: `header.csv` doesn't describe columns.
-    /// - [`Error::BadCheckpoint`]: a column's file can't be read as one.
-    /// - [`Error::NoCheckpoint`]: the files contain no complete checkpoint.
-    /// - [`Error::TooManyRows`]: more rows than [`Options::row_limit`].
-    /// - [`Error::BadLimit`]: an option is outside its range.
-    /// - [`Error::NoMemory`]: out of memory.
-    /// - [`Error::Misuse`]: the path is empty, too long or has a zero byte.
+    /// - [`ErrorKind::Io`]: a file can't be read.
+    /// - [`ErrorKind::BadTable`]: `header.csv` doesn't describe columns.
+    /// - [`ErrorKind::BadCheckpoint`]: a column's file can't be read as one.
+    /// - [`ErrorKind::NoCheckpoint`]: the files contain no complete checkpoint.
+    /// - [`ErrorKind::TooManyRows`]: more rows than [`Options::row_limit`].
+    /// - [`ErrorKind::BadLimit`]: an option is outside its range.
+    /// - [`ErrorKind::NoMemory`]: out of memory.
+    /// - [`ErrorKind::Misuse`]: the path is empty, too long or has a zero byte.
     pub fn recover(folder: impl AsRef<Path>, options: &Options) -> Result<Table, Error> {
         let folder = path_of(folder.as_ref())?;
         let options = options.passed()?;
@@ -233,7 +233,7 @@ impl Table {
     ///
     /// # Errors
     ///
-    /// - [`Error::NoMemory`]: out of memory; nothing changed.
+    /// - [`ErrorKind::NoMemory`]: out of memory; nothing changed.
     pub fn begin(&self) -> Result<Transaction<'_>, Error> {
         begin(Keeper::Lent(self))
     }
@@ -244,7 +244,7 @@ impl Table {
     ///
     /// # Errors
     ///
-    /// - [`Error::NoMemory`]: out of memory; nothing changed.
+    /// - [`ErrorKind::NoMemory`]: out of memory; nothing changed.
     ///
     /// ```
     /// use narthexmace::{Error, Options, Table, Transaction};
@@ -272,7 +272,7 @@ impl Table {
     ///
     /// # Errors
     ///
-    /// - [`Error::NoMemory`]: out of memory; nothing changed.
+    /// - [`ErrorKind::NoMemory`]: out of memory; nothing changed.
     ///
     /// ```
     /// use narthexmace::{Error, Options, Table};
@@ -294,7 +294,7 @@ impl Table {
     ///
     /// # Errors
     ///
-    /// - [`Error::NoMemory`]: out of memory; nothing changed.
+    /// - [`ErrorKind::NoMemory`]: out of memory; nothing changed.
     pub fn pin_shared(self: &Arc<Table>) -> Result<Pin<'static>, Error> {
         pin(Keeper::Shared(Arc::clone(self)))
     }
@@ -304,8 +304,8 @@ impl Table {
     ///
     /// # Errors
     ///
-    /// - [`Error::NoMemory`]: out of memory; nothing changed.
-    /// - [`Error::Misuse`]: this thread holds a prepared commit of the table.
+    /// - [`ErrorKind::NoMemory`]: out of memory; nothing changed.
+    /// - [`ErrorKind::Misuse`]: this thread holds a prepared commit of the table.
     pub fn fold(&self) -> Result<(), Error> {
         // SAFETY: the table is open while `self` is there.
         done(unsafe { ffi::pdt_fold(self.raw.as_ptr()) })
@@ -331,12 +331,12 @@ impl Table {
     ///
     /// # Errors
     ///
-    /// - [`Error::Exists`]: the folder has a checkpoint, or a part of one.
-    /// - [`Error::Io`]: a file can't be written or synced, or the folder isn't there or may not be read.
-    /// - [`Error::WritesFailed`]: a commit of the table's database can't be made durable.
-    /// - [`Error::NoMemory`]: out of memory.
-    /// - [`Error::Misuse`]: the path is empty, too long or has a zero byte, or this thread holds a prepared commit of
-    ///   the table.
+    /// - [`ErrorKind::Exists`]: the folder has a checkpoint, or a part of one.
+    /// - [`ErrorKind::Io`]: a file can't be written or synced, or the folder isn't there or may not be read.
+    /// - [`ErrorKind::WritesFailed`]: a commit of the table's database can't be made durable.
+    /// - [`ErrorKind::NoMemory`]: out of memory.
+    /// - [`ErrorKind::Misuse`]: the path is empty, too long or has a zero byte, or this thread holds a prepared commit
+    ///   of the table.
     ///
     /// After an error the files that were written are deleted, and the stable table is unchanged.
     pub fn checkpoint(&self, folder: impl AsRef<Path>) -> Result<(), Error> {
@@ -350,8 +350,8 @@ impl Table {
     ///
     /// # Errors
     ///
-    /// - [`Error::NoMemory`]: out of memory; nothing changed.
-    /// - [`Error::Misuse`]: this thread holds a prepared commit of the table.
+    /// - [`ErrorKind::NoMemory`]: out of memory; nothing changed.
+    /// - [`ErrorKind::Misuse`]: this thread holds a prepared commit of the table.
     pub fn begin_checkpoint(&self) -> Result<Checkpoint<'_>, Error> {
         begin_checkpoint(Keeper::Lent(self))
     }
@@ -361,8 +361,8 @@ impl Table {
     ///
     /// # Errors
     ///
-    /// - [`Error::NoMemory`]: out of memory; nothing changed.
-    /// - [`Error::Misuse`]: this thread holds a prepared commit of the table.
+    /// - [`ErrorKind::NoMemory`]: out of memory; nothing changed.
+    /// - [`ErrorKind::Misuse`]: this thread holds a prepared commit of the table.
     pub fn begin_checkpoint_shared(self: &Arc<Table>) -> Result<Checkpoint<'static>, Error> {
         begin_checkpoint(Keeper::Shared(Arc::clone(self)))
     }
@@ -425,7 +425,7 @@ fn type_of(code: c_int) -> ColumnType {
 pub(crate) fn path_of(path: &Path) -> Result<Vec<c_char>, Error> {
     let bytes = path.as_os_str().as_bytes();
     if bytes.contains(&0) {
-        return Err(Error::Misuse);
+        return Err(ErrorKind::Misuse.into());
     }
     let mut passed = Vec::new();
     passed.try_reserve_exact(bytes.len() + 1)?;

@@ -1,6 +1,6 @@
 //! A table of a database, and the handles of each.
 use crate::keeper::Keeper;
-use crate::{Database, Error, Table, ffi};
+use crate::{Database, Error, ErrorKind, Table, ffi};
 use std::fmt;
 use std::ops::Deref;
 
@@ -90,7 +90,7 @@ impl Handles {
     /// Counts one handle of a table more. `Missing` if it is being dropped.
     pub(crate) fn take(&mut self, table: usize) -> Result<(), Error> {
         match self.of(table) {
-            Some(at) if self.0[at].leaves => return Err(Error::Missing),
+            Some(at) if self.0[at].leaves => return Err(ErrorKind::Missing.into()),
             Some(at) => self.0[at].handles += 1,
             None => {
                 self.0.try_reserve(1)?;
@@ -112,7 +112,7 @@ impl Handles {
     /// Refuses further handles of a table. `Misuse` if it has handles, or is being dropped already.
     pub(crate) fn begin_drop(&mut self, table: usize) -> Result<(), Error> {
         if self.of(table).is_some() {
-            return Err(Error::Misuse);
+            return Err(ErrorKind::Misuse.into());
         }
         self.0.try_reserve(1)?;
         self.0.push(Had { table, handles: 0, leaves: true });

@@ -3,16 +3,14 @@ use crate::cells::filled;
 use crate::error::done;
 use crate::table::ColumnType;
 use crate::transaction::Open;
-use crate::{Error, ffi};
+use crate::{Error, ErrorKind, ffi, sentences};
 use std::ffi::c_char;
 use std::{ptr, slice, str};
 
 /// The texts of a text column from one position of the table up to another.
 pub(crate) fn lent<'t>(txn: &'t Open<'_>, column: usize, from: u64, to: u64) -> Result<Vec<&'t str>, Error> {
-    if txn.table().columns().get(column).ok_or(Error::TypeMismatch)?.column_type != ColumnType::Text {
-        return Err(Error::TypeMismatch);
-    }
-    let rows = usize::try_from(to - from).map_err(|_| Error::NoMemory)?;
+    sentences::column_of(txn.table().columns(), column, ColumnType::Text)?;
+    let rows = usize::try_from(to - from).map_err(|_| ErrorKind::NoMemory)?;
     let mut addresses = filled(rows, ptr::null())?;
     let mut lengths = filled(rows, 0i64)?;
     let mut count = rows;

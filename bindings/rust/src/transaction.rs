@@ -1,9 +1,11 @@
 //! An open transaction: how it ends, its writes and its savepoints.
+#[cfg(doc)]
+use crate::ErrorKind;
 use crate::cells::Passed;
 use crate::error::done;
 use crate::keeper::Keeper;
 use crate::savepoints::{Savepoint, Savepoints};
-use crate::{CellRef, CommitError, Error, Prepared, Refusal, Table, ffi};
+use crate::{CellRef, CommitError, Error, Prepared, Refusal, Table, ffi, sentences};
 use std::ffi::c_int;
 use std::fmt;
 use std::mem::take;
@@ -106,13 +108,13 @@ impl<'s> Transaction<'s> {
     /// transaction is over; [`try_commit`](Transaction::try_commit) gives it back if it is still open.
     ///
     /// ```
-    /// use narthexmace::{Error, Options, Table};
+    /// use narthexmace::{Error, ErrorKind, Options, Table};
     /// let table = Table::open("id:int:key,qty:int\n10,7\n", &Options::default())?;
     /// let (mut first, mut second) = (table.begin()?, table.begin()?);
     /// first.set([10], 1, 5)?;
     /// second.set([10], 1, 6)?;
     /// assert_eq!(1, first.commit()?);
-    /// assert_eq!(Err(Error::Conflict), second.commit());
+    /// assert_eq!(second.commit().unwrap_err(), ErrorKind::Conflict);
     /// # Ok::<(), Box<dyn std::error::Error + Send + Sync>>(())
     /// ```
     ///
@@ -121,19 +123,19 @@ impl<'s> Transaction<'s> {
     ///
     /// # Errors
     ///
-    /// - [`Error::Conflict`]: a concurrent commit modified the same data. Begin again, and repeat the work.
-    /// - [`Error::TooOld`]: the changes of a commit since the begin aren't retained any more. Begin again.
-    /// - [`Error::Full`]: the table would have more rows than [`Options::row_limit`](crate::Options::row_limit).
-    /// - [`Error::NoMemory`]: out of memory.
-    /// - [`Error::Misuse`]: this thread holds another prepared commit of the table.
+    /// - [`ErrorKind::Conflict`]: a concurrent commit modified the same data. Begin again, and repeat the work.
+    /// - [`ErrorKind::TooOld`]: the changes of a commit since the begin aren't retained any more. Begin again.
+    /// - [`ErrorKind::Full`]: the table would have more rows than [`Options::row_limit`](crate::Options::row_limit).
+    /// - [`ErrorKind::NoMemory`]: out of memory.
+    /// - [`ErrorKind::Misuse`]: this thread holds another prepared commit of the table.
     ///
     /// Over a table of a database also:
     ///
-    /// - [`Error::OutcomeUnknown`]: I/O error while the commit was written; whether it is durable is unknown until the
-    ///   database is reopened. With early reads also for a transaction that changes nothing.
-    /// - [`Error::WritesFailed`]: an earlier write failed.
-    /// - [`Error::TooLong`]: the changes take 4 GiB or more in the journal.
-    /// - [`Error::ReadOnly`]: the database was opened read-only.
+    /// - [`ErrorKind::OutcomeUnknown`]: I/O error while the commit was written; whether it is durable is unknown until
+    ///   the database is reopened. With early reads also for a transaction that changes nothing.
+    /// - [`ErrorKind::WritesFailed`]: an earlier write failed.
+    /// - [`ErrorKind::TooLong`]: the changes take 4 GiB or more in the journal.
+    /// - [`ErrorKind::ReadOnly`]: the database was opened read-only.
     pub fn commit(self) -> Result<u64, Error> {
         self.try_commit().map_err(Error::from)
     }
@@ -160,7 +162,7 @@ impl<'s> Transaction<'s> {
     ///
     /// # Errors
     ///
-    /// The causes of [`commit`](Transaction::commit), except for [`Error::OutcomeUnknown`].
+    /// The causes of [`commit`](Transaction::commit), except for [`ErrorKind::OutcomeUnknown`].
     pub fn prepare(self) -> Result<Prepared<'s>, Error> {
         self.try_prepare().map_err(Error::from)
     }
@@ -231,12 +233,12 @@ impl<'s, E: Ending> Transaction<'s, E> {
     ///
     /// # Errors
     ///
-    /// - [`Error::Duplicate`]: a row with this key exists.
-    /// - [`Error::Full`]: the table would have more rows than [`Options::row_limit`](crate::Options::row_limit).
-    /// - [`Error::TypeMismatch`]: a cell doesn't fit its column, or there are too few or too many.
-    /// - [`Error::NoMemory`]: out of memory; nothing changed.
+    /// - [`ErrorKind::Duplicate`]: a row with this key exists.
+    /// - [`ErrorKind::Full`]: the table would have more rows than [`Options::row_limit`](crate::Options::row_limit).
+    /// - [`ErrorKind::TypeMismatch`]: a cell doesn't fit its column, or there are too few or too many.
+    /// - [`ErrorKind::NoMemory`]: out of memory; nothing changed.
     pub fn insert<'c, C: Into<CellRef<'c>>>(&mut self, row: impl IntoIterator<Item = C>) -> Result<(), Error> {
-        let row = Passed::of(row, self.table().columns())?;
+        let row = Passed::of("row", row, self.table().columns())?;
         // SAFETY: the transaction is open; there are as many numbers as columns, and as many bytes as is said.
         done(unsafe { ffi::pdt_insert(self.raw(), row.numbers(), row.texts(), row.bytes()) })
     }
@@ -245,9 +247,9 @@ impl<'s, E: Ending> Transaction<'s, E> {
     ///
     /// # Errors
     ///
-    /// - [`Error::Missing`]: no row has this key.
-    /// - [`Error::TypeMismatch`]: the key doesn't fit the key columns.
-    /// - [`Error::NoMemory`]: out of memory; nothing changed.
+    /// - [`ErrorKind::Missing`]: no row has this key.
+    /// - [`ErrorKind::TypeMismatch`]: the key doesn't fit the key columns.
+    /// - [`ErrorKind::NoMemory`]: out of memory; nothing changed.
     pub fn delete<'c, C: Into<CellRef<'c>>>(&mut self, key: impl IntoIterator<Item = C>) -> Result<(), Error> {
         let key = self.key(key)?;
         // SAFETY: the transaction is open; there are as many numbers as key columns, and as many bytes as is said.
@@ -258,10 +260,10 @@ impl<'s, E: Ending> Transaction<'s, E> {
     ///
     /// # Errors
     ///
-    /// - [`Error::Missing`]: no row has this key.
-    /// - [`Error::TypeMismatch`]: the key doesn't fit the key columns, there is no such column, it is a key column, or
-    ///   the cell doesn't fit it.
-    /// - [`Error::NoMemory`]: out of memory; nothing changed.
+    /// - [`ErrorKind::Missing`]: no row has this key.
+    /// - [`ErrorKind::TypeMismatch`]: the key doesn't fit the key columns, there is no such column, it is a key column,
+    ///   or the cell doesn't fit it.
+    /// - [`ErrorKind::NoMemory`]: out of memory; nothing changed.
     pub fn set<'c, 'd, C: Into<CellRef<'c>>>(
         &mut self,
         key: impl IntoIterator<Item = C>,
@@ -270,7 +272,7 @@ impl<'s, E: Ending> Transaction<'s, E> {
     ) -> Result<(), Error> {
         let key = self.key(key)?;
         let cell = cell.into();
-        cell.check(self.table().columns().get(column).ok_or(Error::TypeMismatch)?)?;
+        cell.check(sentences::column(self.table().columns(), column)?)?;
         let (number, text) = (cell.number(), cell.bytes().as_ptr().cast());
         // SAFETY: the transaction is open; there are as many numbers as key columns, and as many bytes as is said; of a
         // text column the cell is a text, whose number is how many bytes it has.
@@ -281,7 +283,7 @@ impl<'s, E: Ending> Transaction<'s, E> {
     ///
     /// # Errors
     ///
-    /// - [`Error::NoMemory`]: out of memory; nothing changed.
+    /// - [`ErrorKind::NoMemory`]: out of memory; nothing changed.
     ///
     /// ```
     /// use narthexmace::{Error, Options, Table};
@@ -307,7 +309,7 @@ impl<'s, E: Ending> Transaction<'s, E> {
     ///
     /// # Errors
     ///
-    /// - [`Error::Missing`]: the savepoint is gone, or is another transaction's; nothing changes.
+    /// - [`ErrorKind::Missing`]: the savepoint is gone, or is another transaction's; nothing changes.
     pub fn rollback_to(&mut self, savepoint: &Savepoint) -> Result<(), Error> {
         let level = self.savepoints.level(savepoint)?;
         // SAFETY: the transaction is open.
@@ -320,7 +322,7 @@ impl<'s, E: Ending> Transaction<'s, E> {
     ///
     /// # Errors
     ///
-    /// - [`Error::Missing`]: the savepoint is gone, or is another transaction's; nothing changes.
+    /// - [`ErrorKind::Missing`]: the savepoint is gone, or is another transaction's; nothing changes.
     pub fn release(&mut self, savepoint: Savepoint) -> Result<(), Error> {
         let level = self.savepoints.level(&savepoint)?;
         // SAFETY: the transaction is open.
@@ -331,7 +333,7 @@ impl<'s, E: Ending> Transaction<'s, E> {
 
     /// A key, as the library takes it.
     pub(crate) fn key<'c, C: Into<CellRef<'c>>>(&self, key: impl IntoIterator<Item = C>) -> Result<Passed, Error> {
-        Passed::of(key, &self.table().columns()[..self.table().key_columns()])
+        Passed::of("key", key, &self.table().columns()[..self.table().key_columns()])
     }
 }
 

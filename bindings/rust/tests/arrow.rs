@@ -3,7 +3,7 @@
 mod fixtures;
 
 use fixtures::{Folder, opened as database};
-use narthexmace::{Apply, ArrowArrayStream, ArrowColumn, Error, Options, Table};
+use narthexmace::{Apply, ArrowArrayStream, ArrowColumn, ErrorKind, Options, Table};
 use std::sync::Arc;
 
 fn opened() -> Table {
@@ -71,18 +71,20 @@ fn rows_are_applied_or_none() {
     let mut txn = table.begin().unwrap();
     let stream = || table.pin().unwrap().arrow(&[], 100..200, 30).unwrap();
     let refusal = txn.apply_arrow(stream(), Apply::Insert).unwrap_err();
-    assert_eq!((Error::Duplicate, 0), (refusal.error, refusal.row));
-    assert_eq!("row 0, column 0: there is a row of the key", refusal.to_string());
+    assert_eq!((ErrorKind::Duplicate, 0), (refusal.error.kind(), refusal.row));
+    assert_eq!("row 0, column 0: a row with the key id=100 exists", refusal.to_string());
     assert_eq!(100, txn.apply_arrow(stream(), Apply::Delete).unwrap());
     assert_eq!(900, txn.rows());
     let refusal = txn.apply_arrow(stream(), Apply::Delete).unwrap_err();
-    assert_eq!(Error::Missing, refusal.error);
+    assert_eq!(ErrorKind::Missing, refusal.error);
     assert_eq!(100, txn.apply_arrow(stream(), Apply::Insert).unwrap());
     assert_eq!(100, txn.apply_arrow(stream(), Apply::Upsert).unwrap());
     assert_eq!(1000, txn.rows());
     let narrow = table.pin().unwrap().arrow(&[ArrowColumn::of(0)], .., 0).unwrap();
     let refusal = txn.apply_arrow(narrow, Apply::Insert).unwrap_err();
-    assert_eq!((Error::TypeMismatch, "column name of the table isn't there"), (refusal.error, &*refusal.cause));
+    let cause = "column \"name\" of the table isn't there";
+    assert_eq!((ErrorKind::TypeMismatch, cause), (refusal.error.kind(), &*refusal.cause));
+    assert_eq!(cause, refusal.error.to_string());
 }
 
 #[test]
@@ -94,13 +96,14 @@ fn streams_that_are_none_are_refused() {
     assert_eq!(22, moved.schema().unwrap_err().errno);
     assert!(moved.next_batch().is_err());
     let mut txn = table.begin().unwrap();
-    assert_eq!(Error::Misuse, txn.apply_arrow(moved, Apply::Delete).unwrap_err().error);
+    assert_eq!(ErrorKind::Misuse, txn.apply_arrow(moved, Apply::Delete).unwrap_err().error);
     assert_eq!(1000, txn.apply_arrow(stream, Apply::Delete).unwrap());
     let pin = table.pin().unwrap();
-    assert_eq!(Some(Error::TypeMismatch), pin.arrow(&[ArrowColumn::of(3)], .., 0).err());
-    assert_eq!(Some(Error::TypeMismatch), pin.arrow(&[ArrowColumn::shown(1, c"l")], .., 0).err());
+    assert_eq!(Some(ErrorKind::TypeMismatch.into()), pin.arrow(&[ArrowColumn::of(3)], .., 0).err());
+    assert_eq!(Some(ErrorKind::TypeMismatch.into()), pin.arrow(&[ArrowColumn::shown(1, c"l")], .., 0).err());
     let refusal = Table::open_arrow(pin.arrow(&[], .., 0).unwrap(), &["nope"], &Options::default()).unwrap_err();
-    assert_eq!((Error::BadTable, "there is no column nope, which the key names"), (refusal.error, &*refusal.cause));
+    let cause = "there is no column \"nope\", which the key names";
+    assert_eq!((ErrorKind::BadTable, cause), (refusal.error.kind(), &*refusal.cause));
 }
 
 #[test]
@@ -131,11 +134,11 @@ fn a_table_of_a_database_is_made_of_a_stream() {
     assert_eq!(100, names.begin().unwrap().rows());
     assert_eq!("name", names.columns()[0].name);
     let refusal = database.create_from_arrow("names", stream(), &["id"], &Options::default()).unwrap_err();
-    assert_eq!(Error::Exists, refusal.error);
+    assert_eq!(ErrorKind::Exists, refusal.error);
     let refusal = database.create_from_arrow("other", stream(), &["even"], &Options::default()).unwrap_err();
-    assert_eq!((Error::Duplicate, 3), (refusal.error, refusal.row)); // the second one of the least key
+    assert_eq!((ErrorKind::Duplicate, 3), (refusal.error.kind(), refusal.row)); // the second one of the least key
     let refusal = database.create_from_arrow("", stream(), &["id"], &Options::default()).unwrap_err();
-    assert_eq!(Error::TypeMismatch, refusal.error);
+    assert_eq!(ErrorKind::TypeMismatch, refusal.error);
 }
 
 #[test]
@@ -146,8 +149,8 @@ fn what_a_column_is_declared_as_goes_out_and_comes_in() {
     let again =
         Table::open_arrow(table.pin().unwrap().arrow(&[], .., 0).unwrap(), &["id"], &Options::default()).unwrap();
     assert_eq!(Some("tdD"), again.declared(1).unwrap().as_deref());
-    assert_eq!(Err(Error::TypeMismatch), table.declare(0, Some(c"?l")));
-    assert_eq!(Err(Error::TypeMismatch), table.declare(2, None));
+    assert_eq!(Err(ErrorKind::TypeMismatch.into()), table.declare(0, Some(c"?l")));
+    assert_eq!(Err(ErrorKind::TypeMismatch.into()), table.declare(2, None));
     table.declare(1, None).unwrap();
     assert_eq!((None, None), (table.declared(1).unwrap(), table.declared(2).unwrap()));
 }
@@ -161,7 +164,7 @@ fn a_stream_keeps_a_database_open_until_it_is_released() {
         table.pin().unwrap().arrow(&[], .., 0).unwrap()
     };
     let refused = opened.close().unwrap_err();
-    assert_eq!(Error::Misuse, refused.error);
+    assert_eq!(ErrorKind::Misuse, refused.error);
     drop(stream);
     refused.database.unwrap().close().unwrap();
     database(&folder).0.close().unwrap(); // nobody has its folder any more

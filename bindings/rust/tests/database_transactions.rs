@@ -4,7 +4,7 @@ mod fixtures;
 
 use fixtures::{Folder, ITEMS, made, opened, qtys, refused, set};
 use narthexmace::{
-    Database, DatabaseCommitError, DatabaseOptions, DatabaseTransaction, Error, OpenError, Options, SyncMode, Table,
+    Database, DatabaseCommitError, DatabaseOptions, DatabaseTransaction, ErrorKind, OpenError, Options, SyncMode, Table,
 };
 use std::sync::Arc;
 use std::sync::atomic::{AtomicU64, Ordering};
@@ -61,7 +61,7 @@ fn a_work_sees_all_tables_at_one_moment() {
         (on_b.version(), on_b.batch(&[1], ..).unwrap().ints(0).unwrap().iter().next().unwrap())
     });
     let later = database.create("later", ITEMS, &Options::default()).unwrap();
-    assert_eq!(Some(Error::Missing), dbtxn.on(&later).err());
+    assert_eq!(Some(ErrorKind::Missing.into()), dbtxn.on(&later).err());
 }
 
 #[test]
@@ -74,7 +74,7 @@ fn a_works_transaction_keeps_its_writes_and_its_marks() {
     first.set([10], 1, 5).unwrap();
     let savepoint = first.savepoint().unwrap();
     first.delete([20]).unwrap();
-    assert_eq!(Some(Error::Misuse), dbtxn.on(&a).err()); // it is there already
+    assert_eq!(Some(ErrorKind::Misuse.into()), dbtxn.on(&a).err()); // it is there already
     drop(first);
     let mut again = dbtxn.on(&a).unwrap();
     assert_eq!((1, &a.columns()[0].name), (again.rows(), &again.table().columns()[0].name));
@@ -83,8 +83,8 @@ fn a_works_transaction_keeps_its_writes_and_its_marks() {
     assert_eq!(vec![5, 2], again.batch(&[1], ..).unwrap().ints(0).unwrap().iter().collect::<Vec<i64>>());
     let (plain, other) = (Table::open(ITEMS, &Options::default()).unwrap(), Folder::new("other"));
     let others = made(&other, &["a"]);
-    assert_eq!(Some(Error::Misuse), dbtxn.on(&plain).err());
-    assert_eq!(Some(Error::Misuse), dbtxn.on(&others.table("a").unwrap()).err());
+    assert_eq!(Some(ErrorKind::Misuse.into()), dbtxn.on(&plain).err());
+    assert_eq!(Some(ErrorKind::Misuse.into()), dbtxn.on(&others.table("a").unwrap()).err());
     drop(again);
     assert_eq!(1, dbtxn.commit().unwrap());
     assert_eq!(vec![5, 2], qtys(&a));
@@ -98,9 +98,12 @@ fn a_commit_in_two_parts_is_put_into_the_journal() {
     let mut txn = a.begin().unwrap();
     txn.set([10], 1, 5).unwrap();
     let prepared = txn.prepare().unwrap();
-    assert_eq!(Err(Error::Misuse), database.drop_table("a"));
-    assert_eq!(Err(Error::Misuse), database.maintain());
-    assert!(matches!(database.create("b", ITEMS, &Options::default()), Err(OpenError::Other(Error::Misuse))));
+    assert_eq!(Err(ErrorKind::Misuse.into()), database.drop_table("a"));
+    assert_eq!(Err(ErrorKind::Misuse.into()), database.maintain());
+    assert!(matches!(
+        database.create("b", ITEMS, &Options::default()),
+        Err(OpenError::Other(error)) if error == ErrorKind::Misuse
+    ));
     let dbtxn = database.begin().unwrap();
     dbtxn.on(&a).unwrap().set([20], 1, 5).unwrap();
     let Err(DatabaseCommitError::Misuse(dbtxn)) = dbtxn.try_commit() else { panic!("a commit came between") };
@@ -200,7 +203,7 @@ fn sessions_keep_their_database_their_tables_and_their_works() {
     }
     let items = Arc::new(database.table_shared("items").unwrap());
     drop(database);
-    assert_eq!(Error::Locked, refused(&folder).error); // the table keeps it
+    assert_eq!(ErrorKind::Locked, refused(&folder).error); // the table keeps it
     let txn = items.begin_shared().unwrap();
     drop(items);
     assert_eq!(6, txn.rows());

@@ -4,7 +4,7 @@ mod fixtures;
 
 use fixtures::{Folder, ITEMS, made, opened, qtys, refused, set};
 use narthexmace::{
-    Cell, ColumnValues, ColumnsError, CommitError, Database, DatabaseOptions, Error, OpenError, Options,
+    Cell, ColumnValues, ColumnsError, CommitError, Database, DatabaseOptions, Error, ErrorKind, OpenError, Options,
 };
 use std::path::Path;
 use std::sync::Arc;
@@ -43,18 +43,18 @@ fn tables_are_made_over_texts_and_columns() {
     let last = columns.begin().unwrap().row_at(1).unwrap().unwrap();
     assert_eq!([Cell::Int(2), Cell::Bool(false)], last[..]);
     let refused = |name: &str, csv: &str, options: &Options| database.create(name, csv, options).unwrap_err();
-    assert_eq!(OpenError::Other(Error::Exists), refused("empty", ITEMS, &all));
+    assert_eq!(OpenError::Other(ErrorKind::Exists.into()), refused("empty", ITEMS, &all));
     assert!(matches!(refused("x", "id:int:key\nx\n", &all), OpenError::BadTable(fault) if fault.record == 2));
-    assert_eq!(OpenError::Other(Error::TooManyRows), refused("x", ITEMS, &Options { row_limit: 1, ..all }));
+    assert_eq!(OpenError::Other(ErrorKind::TooManyRows.into()), refused("x", ITEMS, &Options { row_limit: 1, ..all }));
     for name in ["", "a\0b", "a\nb", "\x7f", &"x".repeat(65)] {
-        assert_eq!(OpenError::Other(Error::TypeMismatch), refused(name, ITEMS, &all));
-        assert_eq!(Some(Error::Missing), database.table(name).err());
-        assert_eq!(Err(Error::Missing), database.drop_table(name));
+        assert_eq!(OpenError::Other(ErrorKind::TypeMismatch.into()), refused(name, ITEMS, &all));
+        assert_eq!(Some(ErrorKind::Missing.into()), database.table(name).err());
+        assert_eq!(Err(ErrorKind::Missing.into()), database.drop_table(name));
         let twice = database.create_from_columns(name, &[("id", ColumnValues::Ints(&[1, 1]))], 1, &all);
-        assert_eq!(Some(ColumnsError::Other(Error::TypeMismatch)), twice.err());
+        assert_eq!(Some(ColumnsError::Other(ErrorKind::TypeMismatch.into())), twice.err());
     }
     let twice = database.create_from_columns("x", &[("id", ColumnValues::Ints(&[1, 1]))], 1, &all);
-    assert_eq!(Some(ColumnsError::NotAscending { row: 1 }), twice.err());
+    assert_eq!(Some(ColumnsError::NotAscending { row: 1, error: ErrorKind::NotAscending.into() }), twice.err());
     let longest = "x".repeat(64);
     database.create(&longest, ITEMS, &all).unwrap();
     assert_eq!(vec!["empty", "columns", &longest], database.names().unwrap());
@@ -69,7 +69,7 @@ fn the_options_of_a_table_last() {
     drop(database);
     let (database, _) = opened(&folder);
     let few = database.table("few").unwrap();
-    assert_eq!(Err(Error::Full), few.begin().unwrap().insert([30, 1]));
+    assert_eq!(Err(ErrorKind::Full.into()), few.begin().unwrap().insert([30, 1]));
 }
 
 #[test]
@@ -77,7 +77,7 @@ fn one_opening_at_a_time_has_a_database() {
     let folder = Folder::new("locked");
     let database = made(&folder, &["a"]);
     let again = refused(&folder);
-    assert_eq!((Error::Locked, None), (again.error, again.commit));
+    assert_eq!((ErrorKind::Locked, None), (again.error.kind(), again.commit));
     assert!(again.to_string().starts_with("the database is open already"), "{again}");
     drop(database);
     assert_eq!(0, opened(&folder).1.commits);
@@ -88,21 +88,21 @@ fn a_table_is_dropped_once_nobody_has_it() {
     let folder = Folder::new("drops");
     let database = Arc::new(made(&folder, &["a", "b", "c"]));
     let table = database.table("a").unwrap();
-    assert_eq!(Err(Error::Misuse), database.drop_table("a"));
+    assert_eq!(Err(ErrorKind::Misuse.into()), database.drop_table("a"));
     let (second, shared) = (database.table("a").unwrap(), database.table_shared("a").unwrap());
     drop((table, second));
-    assert_eq!(Err(Error::Misuse), database.drop_table("a"));
+    assert_eq!(Err(ErrorKind::Misuse.into()), database.drop_table("a"));
     let shared = Arc::new(shared);
     let txn = shared.begin_shared().unwrap();
     drop(shared);
-    assert_eq!(Err(Error::Misuse), database.drop_table("a"));
+    assert_eq!(Err(ErrorKind::Misuse.into()), database.drop_table("a"));
     drop(txn);
     let dbtxn = database.begin().unwrap();
-    assert_eq!(Err(Error::Misuse), database.drop_table("a")); // the database transaction may come to it
+    assert_eq!(Err(ErrorKind::Misuse.into()), database.drop_table("a")); // the database transaction may come to it
     drop(dbtxn);
     assert_eq!(Ok(()), database.drop_table("a"));
-    assert_eq!(Err(Error::Missing), database.drop_table("a"));
-    assert_eq!(Some(Error::Missing), database.table("a").err());
+    assert_eq!(Err(ErrorKind::Missing.into()), database.drop_table("a"));
+    assert_eq!(Some(ErrorKind::Missing.into()), database.table("a").err());
     assert_eq!(vec!["b", "c"], database.names().unwrap());
     database.create("a", "id:int:key\n", &Options::default()).unwrap();
     drop(database);
@@ -121,7 +121,7 @@ fn threads_take_and_drop_a_table() {
                 for _ in 0..300 {
                     match database.table("a") {
                         Ok(table) => assert_eq!(2, table.begin().unwrap().rows()),
-                        Err(error) => assert_eq!(Error::Missing, error),
+                        Err(error) => assert_eq!(ErrorKind::Missing, error),
                     }
                     assert_eq!("kept", database.names().unwrap()[0]);
                     database.begin().unwrap().commit().unwrap();
@@ -131,7 +131,7 @@ fn threads_take_and_drop_a_table() {
         for _ in 0..20 {
             database.create("a", ITEMS, &Options::default()).unwrap();
             while let Err(error) = database.drop_table("a") {
-                assert_eq!(Error::Misuse, error);
+                assert_eq!(ErrorKind::Misuse, error);
                 thread::yield_now();
             }
         }
@@ -195,19 +195,21 @@ fn damage(folder: &Folder, file: &str, at: usize) {
 }
 
 /// An error, the file or the commit that is reported with it, and the damage to a folder that causes it.
-type Damage = (Error, Option<&'static str>, Option<u64>, fn(&Folder));
+type Damage = (ErrorKind, Option<&'static str>, Option<u64>, fn(&Folder));
 
 #[test]
 fn damage_is_told_with_its_file_or_its_commit() {
     let cases: [Damage; 6] = [
-        (Error::Corrupt, Some("image-1-1/column-1.pdt"), None, |folder| damage(folder, "image-1-1/column-1.pdt", 3)),
-        (Error::Corrupt, Some("manifest"), None, |folder| damage(folder, "manifest", 30)),
-        (Error::Corrupt, None, Some(1), |folder| damage(folder, "journal-1", 36 + 30)),
-        (Error::Incomplete, Some("image-1-1/column-0.pdt"), None, |folder| {
+        (ErrorKind::Corrupt, Some("image-1-1/column-1.pdt"), None, |folder| {
+            damage(folder, "image-1-1/column-1.pdt", 3)
+        }),
+        (ErrorKind::Corrupt, Some("manifest"), None, |folder| damage(folder, "manifest", 30)),
+        (ErrorKind::Corrupt, None, Some(1), |folder| damage(folder, "journal-1", 36 + 30)),
+        (ErrorKind::Incomplete, Some("image-1-1/column-0.pdt"), None, |folder| {
             fs::remove_file(folder.0.join("image-1-1/column-0.pdt")).unwrap();
         }),
-        (Error::Incomplete, Some("journal"), None, |folder| fs::remove_file(folder.0.join("journal-1")).unwrap()),
-        (Error::Mismatch, Some("journal-1"), None, |folder| {
+        (ErrorKind::Incomplete, Some("journal"), None, |folder| fs::remove_file(folder.0.join("journal-1")).unwrap()),
+        (ErrorKind::Mismatch, Some("journal-1"), None, |folder| {
             let other = Folder::new("stranger");
             whole(&other);
             fs::copy(other.0.join("journal-1"), folder.0.join("journal-1")).unwrap();
@@ -218,7 +220,7 @@ fn damage_is_told_with_its_file_or_its_commit() {
         whole(&folder);
         harm(&folder);
         let told = refused(&folder);
-        assert_eq!((error, file, commit), (told.error, told.file.as_deref(), told.commit), "case {number}");
+        assert_eq!((error, file, commit), (told.error.kind(), told.file.as_deref(), told.commit), "case {number}");
         let place = file.map_or_else(|| "commit 1".to_string(), str::to_string);
         assert_eq!(format!("{error}: {place}"), told.to_string());
         assert_eq!(error, Error::from(told));
@@ -246,7 +248,7 @@ fn what_is_torn_is_cut_off() {
 fn openings_are_refused() {
     let folder = Folder::new("refused");
     let nowhere = Database::open(folder.0.join("a/b"), &DatabaseOptions::default()).unwrap_err();
-    assert_eq!(Error::Io { errno: 2 }, nowhere.error);
+    assert_eq!(ErrorKind::Io { errno: 2 }, nowhere.error);
     let all = DatabaseOptions::default();
     let limits = [
         DatabaseOptions { fold_entries: 0, ..all },
@@ -257,9 +259,9 @@ fn openings_are_refused() {
         DatabaseOptions { mode: 0o1000, ..all },
     ];
     for options in limits {
-        assert_eq!(Error::BadLimit, Database::open(&folder, &options).unwrap_err().error);
+        assert_eq!(ErrorKind::BadLimit, Database::open(&folder, &options).unwrap_err().error);
     }
-    assert_eq!(Error::Misuse, Database::open("", &all).unwrap_err().error);
+    assert_eq!(ErrorKind::Misuse, Database::open("", &all).unwrap_err().error);
     assert!(!folder.0.exists());
 }
 
@@ -270,16 +272,16 @@ fn a_database_is_opened_for_reading_alone() {
     let reads = DatabaseOptions { read_only: true, ..DatabaseOptions::default() };
     let (one, _) = Database::open(&folder, &reads).unwrap();
     let (other, _) = Database::open(&folder, &reads).unwrap();
-    assert_eq!(Error::Locked, Database::open(&folder, &DatabaseOptions::default()).unwrap_err().error);
-    assert_eq!(Some(Error::ReadOnly), one.create("more", ITEMS, &Options::default()).err().map(Error::from));
-    assert_eq!(Err(Error::ReadOnly), one.drop_table("items"));
+    assert_eq!(ErrorKind::Locked, Database::open(&folder, &DatabaseOptions::default()).unwrap_err().error);
+    assert_eq!(Some(ErrorKind::ReadOnly.into()), one.create("more", ITEMS, &Options::default()).err().map(Error::from));
+    assert_eq!(Err(ErrorKind::ReadOnly.into()), one.drop_table("items"));
     let items = other.table("items").unwrap();
     let mut txn = items.begin().unwrap();
     txn.insert([77, 1]).unwrap();
     let Err(CommitError::ReadOnly(txn)) = txn.try_commit() else { panic!("a commit is written") };
     assert!(txn.get([77]).unwrap().is_some()); // it is still open
     let nowhere = Folder::new("nothing-to-read");
-    assert_eq!(Error::Missing, Database::open(&nowhere, &reads).unwrap_err().error);
+    assert_eq!(ErrorKind::Missing, Database::open(&nowhere, &reads).unwrap_err().error);
     assert!(!nowhere.0.exists());
 }
 
@@ -322,6 +324,6 @@ fn what_is_forgotten_keeps_a_database_open() {
     let folder = Folder::new("forgotten");
     let database = made(&folder, &["a"]);
     std::mem::forget(database.begin().unwrap());
-    assert_eq!(Error::Misuse, database.close().unwrap_err().error);
-    assert_eq!(Error::Locked, refused(&folder).error);
+    assert_eq!(ErrorKind::Misuse, database.close().unwrap_err().error);
+    assert_eq!(ErrorKind::Locked, refused(&folder).error);
 }

@@ -3,7 +3,7 @@
 mod fixtures;
 
 use fixtures::{Folder, ITEMS, made, opened, qtys, set};
-use narthexmace::{CommitError, DatabaseCommitError, Error, OpenError, Options};
+use narthexmace::{CommitError, DatabaseCommitError, ErrorKind, OpenError, Options};
 use std::ffi::c_int;
 use std::fs;
 
@@ -59,13 +59,13 @@ fn a_commit_over_which_the_device_fails_is_unsure_and_none_comes_after() {
         };
         assert_eq!(2, dbtxn.on(&b).unwrap().rows()); // it is still open
         let refused = database.create("c", ITEMS, &Options::default()).err();
-        assert_eq!(Some(OpenError::Other(Error::WritesFailed)), refused);
+        assert_eq!(Some(OpenError::Other(ErrorKind::WritesFailed.into())), refused);
         assert_eq!(vec![8, 2], qtys(&a));
         drop((later, dbtxn));
         drop((a, b));
-        assert_eq!(Err(Error::WritesFailed), database.drop_table("a"));
+        assert_eq!(Err(ErrorKind::WritesFailed.into()), database.drop_table("a"));
         let refused = database.close().unwrap_err();
-        assert_eq!((Error::OutcomeUnknown, true), (refused.error, refused.database.is_none()));
+        assert_eq!((ErrorKind::OutcomeUnknown, true), (refused.error.kind(), refused.database.is_none()));
         limit(UNLIMITED);
         let (database, report) = opened(&folder);
         assert!((1..=2).contains(&report.commits), "{report:?}"); // the second one is there or not

@@ -1,7 +1,7 @@
 //! The change feed: what each commit changed, followed by copies that see nothing else.
 #[path = "fixtures/feed.rs"]
 mod replay;
-use narthexmace::{Cell, Change, Entry, Error, Options, Table, Transaction, cells};
+use narthexmace::{Cell, Change, Entry, Error, ErrorKind, Options, Table, Transaction, cells};
 use replay::apply;
 use std::path::{Path, PathBuf};
 use std::sync::atomic::{AtomicBool, Ordering};
@@ -152,14 +152,14 @@ fn a_gap_is_told_and_nothing_comes_after_it() {
     assert_eq!([[false; 7].as_slice(), &[true; 4], &[false]].concat(), kept);
     assert_eq!((vec![7, 8, 9, 10], None), fed(&table, 6));
     for gone in 0..=5 {
-        assert_eq!((vec![], Some(Error::Missing)), fed(&table, gone));
+        assert_eq!((vec![], Some(ErrorKind::Missing.into())), fed(&table, gone));
     }
     assert_eq!((vec![10], None), fed(&table, 9));
     for newer in [10, 11, u64::MAX] {
         assert_eq!((vec![], None), fed(&table, newer));
     }
     table.trim();
-    assert_eq!((vec![], Some(Error::Missing)), fed(&table, 9));
+    assert_eq!((vec![], Some(ErrorKind::Missing.into())), fed(&table, 9));
     assert_eq!((vec![], None), fed(&table, 10));
     set(&table, 0);
     assert_eq!((vec![11], None), fed(&table, 10));
@@ -173,7 +173,7 @@ fn a_gap_that_comes_while_it_is_followed_is_told() {
     assert_eq!(2, changes.next().unwrap().unwrap().0);
     table.trim();
     assert_eq!(6, set(&table, 6));
-    assert_eq!(Some(Error::Missing), changes.next().unwrap().err());
+    assert_eq!(Some(ErrorKind::Missing.into()), changes.next().unwrap().err());
     assert!(changes.next().is_none());
 }
 

@@ -4,7 +4,7 @@
 mod fixtures;
 
 use fixtures::{GRANTED, LIVE, Run};
-use narthexmace::{Apply, ArrowRefusal, Change, Entry, Error, Options, Row, Table, Transaction, cells};
+use narthexmace::{Apply, ArrowRefusal, Change, Entry, ErrorKind, Options, Row, Table, Transaction, cells};
 use std::collections::BTreeSet;
 use std::path::Path;
 use std::sync::Arc;
@@ -95,7 +95,7 @@ fn exchange(run: &mut Run, table: &Table) {
     };
     let columns = run.made("schema", || {
         let mut stream = pin.arrow(&[], .., 0)?;
-        stream.schema().map(|schema| schema.columns()).map_err(|_| Error::NoMemory)
+        stream.schema().map(|schema| schema.columns()).map_err(|_| ErrorKind::NoMemory.into())
     });
     assert_eq!(4, columns);
     let again = run.made("open_arrow", || open(1));
@@ -104,12 +104,12 @@ fn exchange(run: &mut Run, table: &Table) {
     run.made("a refusal of apply_arrow", || {
         let stream = pin.arrow(&[], .., 0)?;
         match txn.apply_arrow(stream, Apply::Insert) {
-            Err(ArrowRefusal { error: Error::Duplicate, .. }) => Ok(()),
+            Err(ArrowRefusal { error, .. }) if error == ErrorKind::Duplicate => Ok(()),
             refused => refused.map(|_| ()).map_err(|refused| refused.error),
         }
     });
     run.made("a refusal of open_arrow", || match open(0) {
-        Err(Error::BadLimit) => Ok(()),
+        Err(error) if error == ErrorKind::BadLimit => Ok(()),
         refused => refused.map(|_| ()),
     });
 }
@@ -175,7 +175,7 @@ fn after_a_batch_that_was_refused_none_comes() {
     GRANTED.set(Some(0));
     let refused = batches.next();
     GRANTED.set(None);
-    assert_eq!(Some(Error::NoMemory), refused.unwrap().err());
+    assert_eq!(Some(ErrorKind::NoMemory.into()), refused.unwrap().err());
     assert!(batches.next().is_none());
 }
 
@@ -195,9 +195,9 @@ fn after_a_change_that_was_refused_none_comes_and_an_entry_comes_again() {
     let mut entries = layer.entries();
     let unread = entries.next();
     GRANTED.set(None);
-    assert_eq!((1, Some(Error::NoMemory)), (number, refused.unwrap().err()));
+    assert_eq!((1, Some(ErrorKind::NoMemory.into())), (number, refused.unwrap().err()));
     assert!(changes.next().is_none());
-    assert_eq!(Some(Err(Error::NoMemory)), unread);
+    assert_eq!(Some(Err(ErrorKind::NoMemory.into())), unread);
     assert!(matches!(entries.next(), Some(Ok(Entry { change: Change::Delete(_), .. }))));
     assert!(entries.next().is_none());
 }

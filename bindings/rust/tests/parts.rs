@@ -1,6 +1,6 @@
 //! A commit in two parts, with a log that a program writes in between, and a checkpoint that is written while others
 //! commit.
-use narthexmace::{CommitError, Error, Options, Table, Transaction};
+use narthexmace::{CommitError, ErrorKind, Options, Table, Transaction};
 use std::fs;
 use std::path::PathBuf;
 use std::sync::mpsc;
@@ -83,14 +83,14 @@ fn a_thread_prepares_one_commit_at_a_time() {
     let prepared = setting(&table, 10, 5).prepare().unwrap();
     let Err(CommitError::Misuse(other)) = other.try_prepare() else { panic!("two commits are prepared") };
     let Err(CommitError::Misuse(other)) = other.try_commit() else { panic!("a commit came between") };
-    assert_eq!(Err(Error::Misuse), table.fold());
-    assert_eq!(Some(Error::Misuse), table.changes(0).err());
+    assert_eq!(Err(ErrorKind::Misuse.into()), table.fold());
+    assert_eq!(Some(ErrorKind::Misuse.into()), table.changes(0).err());
     assert_eq!(vec![1, 2, 3], newest(&table)); // a begin is of the table as it was, and so is a pin
     assert_eq!(0, table.pin().unwrap().number());
     assert_eq!((0, 0), (table.counts().commits, table.sizes().commits));
     assert_eq!(None, table.wait(0, Duration::ZERO));
-    assert_eq!(Err(Error::Misuse), table.checkpoint(&folder.0));
-    assert_eq!(Some(Error::Misuse), table.begin_checkpoint().err());
+    assert_eq!(Err(ErrorKind::Misuse.into()), table.checkpoint(&folder.0));
+    assert_eq!(Some(ErrorKind::Misuse.into()), table.begin_checkpoint().err());
     prepared.install();
     assert_eq!(2, other.commit().unwrap());
     assert_eq!(vec![5, 6, 3], newest(&table));
@@ -165,14 +165,17 @@ fn others_commit_while_a_checkpoint_is_written() {
     let open = setting(&table, 30, 8);
     let mut checkpoint = table.begin_checkpoint().unwrap();
     assert_eq!(1, checkpoint.number());
-    assert_eq!(Err(Error::Misuse), checkpoint.install());
+    assert_eq!(Err(ErrorKind::Misuse.into()), checkpoint.install());
     thread::scope(|threads| {
         threads.spawn(|| (1..=200).for_each(|qty| assert!(setting(&table, 20, qty).commit().is_ok())));
         threads.spawn(|| checkpoint.write(&folder.0).unwrap());
     });
     assert_eq!(202, open.commit().unwrap());
     checkpoint.install().unwrap();
-    assert_eq!((Err(Error::Misuse), Err(Error::Misuse)), (checkpoint.install(), checkpoint.write(&folder.0)));
+    assert_eq!(
+        (Err(ErrorKind::Misuse.into()), Err(ErrorKind::Misuse.into())),
+        (checkpoint.install(), checkpoint.write(&folder.0))
+    );
     drop(checkpoint);
     let sizes = table.sizes();
     assert_eq!((202, 2, 0), (sizes.commits, sizes.write_entries, sizes.read_entries));
@@ -189,11 +192,11 @@ fn a_fold_or_another_checkpoint_supersedes_a_checkpoint() {
     let mut old = table.begin_checkpoint().unwrap();
     old.write(&first.0).unwrap();
     let mut new = table.begin_checkpoint().unwrap();
-    assert_eq!(Err(Error::Superseded), old.install());
+    assert_eq!(Err(ErrorKind::Superseded.into()), old.install());
     setting(&table, 20, 6).commit().unwrap();
     new.write(&second.0).unwrap();
     table.fold().unwrap();
-    assert_eq!(Err(Error::Superseded), new.install());
+    assert_eq!(Err(ErrorKind::Superseded.into()), new.install());
     assert_eq!(vec![5, 6, 3], newest(&table));
     for folder in [&first, &second] {
         assert_eq!(vec![5, 2, 3], newest(&Table::recover(&folder.0, &Options::default()).unwrap()));

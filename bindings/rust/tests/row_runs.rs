@@ -1,6 +1,6 @@
 //! A column that stays with the caller, read by row runs beside the same column as the library keeps it.
 use narthexmace::{
-    Batch, Checkpoint, ColumnType, ColumnValues, ColumnsError, Error, Options, RowRun, Table, Transaction,
+    Batch, Checkpoint, ColumnType, ColumnValues, ColumnsError, ErrorKind, Options, RowRun, Table, Transaction,
 };
 use std::fs;
 use std::ops::RangeBounds;
@@ -114,7 +114,7 @@ fn a_column_of_the_callers_is_read_by_position() {
     let mut txn = table.begin().unwrap();
     write_some(&mut txn, 4);
     are_the_same(&txn, &column);
-    assert_eq!(Some(Error::Missing), txn.changed(txn.rows()).err());
+    assert_eq!(Some(ErrorKind::Missing.into()), txn.changed(txn.rows()).err());
 }
 
 #[test]
@@ -157,7 +157,7 @@ fn values_that_stay_with_the_caller_are_shown_as_none() {
     assert_eq!(wanted.to_vec(), txn.row_runs(..).collect::<Vec<_>>());
     assert_eq!(vec![false, false, false, true], txn.changed(1).unwrap());
     let refused = |columns: &[(&str, ColumnValues<'_>)]| Table::from_columns(columns, 1, &Options::default()).err();
-    assert_eq!(Some(ColumnsError::Other(Error::BadTable)), refused(&[("id", outside(ColumnType::Int, 2))]));
-    let longer = ColumnsError::Value { row: 2, column: 1 };
+    assert_eq!(Some(ColumnsError::Other(ErrorKind::BadTable.into())), refused(&[("id", outside(ColumnType::Int, 2))]));
+    let longer = ColumnsError::Value { row: 2, column: 1, error: ErrorKind::TypeMismatch.into() };
     assert_eq!(Some(longer), refused(&[id, ("number", outside(ColumnType::Int, 3))]));
 }

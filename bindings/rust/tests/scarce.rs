@@ -7,7 +7,9 @@ mod memory;
 
 use databases::{Folder, ITEMS, qtys};
 use memory::{LIVE, Run};
-use narthexmace::{ColumnValues, Database, DatabaseOptions, DatabaseTransaction, Error, Options, Table, TableRef};
+use narthexmace::{
+    ColumnValues, Database, DatabaseOptions, DatabaseTransaction, Error, ErrorKind, Options, Table, TableRef,
+};
 use std::collections::BTreeSet;
 use std::fs;
 use std::sync::Arc;
@@ -37,7 +39,7 @@ fn opened(folder: &Folder) -> Result<Database, Error> {
 /// Makes a table, unless it was made before and only its handle refused.
 fn made<'d>(database: &'d Database, name: &str) -> Result<TableRef<'d>, Error> {
     match database.create(name, ITEMS, &Options::default()).map_err(Error::from) {
-        Err(Error::Exists) => database.table(name),
+        Err(error) if error == ErrorKind::Exists => database.table(name),
         answer => answer,
     }
 }
@@ -45,7 +47,7 @@ fn made<'d>(database: &'d Database, name: &str) -> Result<TableRef<'d>, Error> {
 fn made_from_columns<'d>(database: &'d Database, name: &str) -> Result<TableRef<'d>, Error> {
     let columns = [("id", ColumnValues::Ints(&[10, 20])), ("qty", ColumnValues::Ints(&[7, 2]))];
     match database.create_from_columns(name, &columns, 1, &Options::default()).map_err(Error::from) {
-        Err(Error::Exists) => database.table(name),
+        Err(error) if error == ErrorKind::Exists => database.table(name),
         answer => answer,
     }
 }

@@ -1,5 +1,5 @@
 //! What a checkpoint leaves, what is recovered of it, and what is refused.
-use narthexmace::{Cell, ColumnType, Error, Options, Row, Table, cells};
+use narthexmace::{Cell, ColumnType, Error, ErrorKind, Options, Row, Table, cells};
 use std::fs;
 use std::path::PathBuf;
 
@@ -85,26 +85,26 @@ fn a_checkpoint_moves_the_entries_into_the_table() {
 fn checkpoints_are_refused() {
     let (table, folder) = (changed(), Folder::new("refused"));
     let nowhere = folder.0.join("nowhere");
-    assert_eq!(Err(Error::Io { errno: ENOENT }), table.checkpoint(&nowhere));
+    assert_eq!(Err(ErrorKind::Io { errno: ENOENT }.into()), table.checkpoint(&nowhere));
     table.checkpoint(&folder.0).unwrap();
-    assert_eq!(Err(Error::Exists), table.checkpoint(&folder.0));
+    assert_eq!(Err(ErrorKind::Exists.into()), table.checkpoint(&folder.0));
     assert_eq!(4, fs::read_dir(&folder.0).unwrap().count());
 }
 
 #[test]
 fn recoveries_are_refused() {
     let (table, folder) = (changed(), Folder::new("damaged"));
-    assert_eq!(Some(Error::Io { errno: ENOENT }), refusal(&folder));
+    assert_eq!(Some(ErrorKind::Io { errno: ENOENT }.into()), refusal(&folder));
     table.checkpoint(&folder.0).unwrap();
     let column = folder.0.join("column-1.pdt");
     let whole = fs::read(&column).unwrap();
     fs::write(&column, &whole[..whole.len() - 1]).unwrap();
-    assert_eq!(Some(Error::NoCheckpoint), refusal(&folder));
+    assert_eq!(Some(ErrorKind::NoCheckpoint.into()), refusal(&folder));
     fs::write(&column, b"no column").unwrap();
-    assert_eq!(Some(Error::BadCheckpoint), refusal(&folder));
+    assert_eq!(Some(ErrorKind::BadCheckpoint.into()), refusal(&folder));
     fs::write(&column, &whole).unwrap();
     let few = Options { row_limit: 1, ..Options::default() };
-    assert_eq!(Some(Error::TooManyRows), Table::recover(&folder.0, &few).err());
+    assert_eq!(Some(ErrorKind::TooManyRows.into()), Table::recover(&folder.0, &few).err());
     fs::write(folder.0.join("header.csv"), "no header\n").unwrap();
-    assert_eq!(Some(Error::BadTable), refusal(&folder));
+    assert_eq!(Some(ErrorKind::BadTable.into()), refusal(&folder));
 }

@@ -1,6 +1,6 @@
 //! Eight threads add to the same rows, and try again where a commit is refused: the sums are those of all that was
 //! added.
-use narthexmace::{CommitError, Error, Options, Table, Transaction};
+use narthexmace::{CommitError, Error, ErrorKind, Options, Table, Transaction};
 use std::sync::Arc;
 use std::sync::atomic::{AtomicUsize, Ordering};
 use std::thread;
@@ -19,7 +19,7 @@ fn add(table: &Table, row: i64, amount: i64) -> Result<(u64, usize), Error> {
     let mut refused = 0;
     loop {
         let mut txn = table.begin()?;
-        let sum = txn.get([row])?.and_then(|row| row[1].as_int()).ok_or(Error::Missing)?;
+        let sum = txn.get([row])?.and_then(|row| row[1].as_int()).ok_or(ErrorKind::Missing)?;
         txn.set([row], 1, sum + amount)?;
         match txn.try_commit() {
             Ok(commit) => return Ok((commit, refused)),

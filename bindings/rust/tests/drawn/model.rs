@@ -1,5 +1,5 @@
 //! A table under snapshot isolation as a map that each transaction copies.
-use narthexmace::{Cell, Error};
+use narthexmace::{Cell, Error, ErrorKind};
 use std::collections::BTreeMap;
 
 pub type Cells = Vec<Cell>;
@@ -115,10 +115,10 @@ impl Model {
     pub fn insert(&self, open: &mut Open, row: &Cells) -> Result<(), Error> {
         let key = row[..self.rules.key_columns].to_vec();
         if open.table.contains_key(&key) {
-            return Err(Error::Duplicate);
+            return Err(ErrorKind::Duplicate.into());
         }
         if open.table.len() >= self.rules.row_limit {
-            return Err(Error::Full);
+            return Err(ErrorKind::Full.into());
         }
         let effect = if open.effects.contains_key(&key) { Effect::Replace } else { Effect::Insert };
         open.effects.insert(key.clone(), effect);
@@ -127,7 +127,7 @@ impl Model {
     }
 
     pub fn delete(&self, open: &mut Open, key: &Cells) -> Result<(), Error> {
-        open.table.remove(key).ok_or(Error::Missing)?;
+        open.table.remove(key).ok_or(ErrorKind::Missing)?;
         match open.effects.get(key) {
             Some(Effect::Insert) => open.effects.remove(key),
             _ => open.effects.insert(key.clone(), Effect::Delete),
@@ -136,7 +136,7 @@ impl Model {
     }
 
     pub fn set(&self, open: &mut Open, key: &Cells, column: usize, cell: &Cell) -> Result<(), Error> {
-        open.table.get_mut(key).ok_or(Error::Missing)?[column] = cell.clone();
+        open.table.get_mut(key).ok_or(ErrorKind::Missing)?[column] = cell.clone();
         let effect = open.effects.entry(key.clone()).or_insert_with(|| Effect::Change(BTreeMap::new()));
         if let Effect::Change(cells) = effect {
             cells.insert(column, cell.clone());

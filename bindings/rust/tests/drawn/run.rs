@@ -2,7 +2,7 @@
 use crate::feed::apply;
 use crate::model::{Cells, Model, Open, Refusal, Refused, Rules};
 use narthexmace::{
-    Cell, CommitError, ConflictRule, Error, Options, Pin, Rank, Row, Savepoint, Table, Transaction, Values,
+    Cell, CommitError, ConflictRule, Error, ErrorKind, Options, Pin, Rank, Row, Savepoint, Table, Transaction, Values,
 };
 use std::collections::BTreeMap;
 use std::time::Duration;
@@ -122,11 +122,11 @@ fn same<T: PartialEq + std::fmt::Debug>(wanted: T, found: T, name: &'static str)
 
 fn written(wanted: Result<(), Error>, found: Result<(), Error>) -> &'static str {
     assert_eq!(wanted, found);
-    match found {
+    match found.map_err(|error| error.kind()) {
         Ok(()) => "Done",
-        Err(Error::Duplicate) => "Duplicate",
-        Err(Error::Missing) => "Missing",
-        Err(Error::Full) => "Full",
+        Err(ErrorKind::Duplicate) => "Duplicate",
+        Err(ErrorKind::Missing) => "Missing",
+        Err(ErrorKind::Full) => "Full",
         Err(other) => panic!("a write answered {other:?}"),
     }
 }
@@ -227,7 +227,7 @@ impl<'s> Run<'s> {
                     assert_eq!(self.rows_of(number), rows);
                 }
                 Err(refused) => {
-                    assert_eq!((Error::Missing, false), (refused, self.model.is_kept(number)));
+                    assert_eq!((ErrorKind::Missing, false), (refused.kind(), self.model.is_kept(number)));
                     assert!(changes.next().is_none());
                     return "Incomplete";
                 }
