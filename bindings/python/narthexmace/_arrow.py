@@ -2,13 +2,15 @@
 from __future__ import annotations
 
 import ctypes
+import re
 from ctypes import byref, c_char, c_char_p, c_int64, c_size_t, c_uint64, c_void_p
 from typing import Any, Callable, Dict, List, Mapping, NamedTuple, Optional, Protocol, Sequence, Tuple
 
 from ._cells import Key, Shaping
-from ._errors import Misuse, NoMemory, TypeMismatch, check, error_of
+from ._errors import Duplicate, Full, Misuse, Missing, NoMemory, TypeMismatch, check, error_of
 from ._handles import Single
 from ._library import library
+from ._sentences import quoted
 
 #: The names of the capsules, as the protocol has them.
 STREAM, SCHEMA = b"arrow_array_stream", b"arrow_schema"
@@ -211,9 +213,6 @@ class ArrowScan(Single):
         """Makes a stream at an address."""
         columns = (ShownOf * len(shown))(*(ShownOf(place, it and it.encode()) for place, it in shown.values()))
         code = self._source.arrow(columns, len(shown), *rows, self._batch, at)
-        if code == TypeMismatch.code:
-            asked = ", ".join(f"{name!r} as {it!r}" for name, (_, it) in shown.items() if it is not None)
-            raise TypeMismatch(f"a column doesn't go out so: {asked}")
         check(code)
 
     def _range(self) -> Tuple[int, int]:
@@ -244,7 +243,7 @@ def _shown(shaping: Shaping, columns: Optional[Sequence[str]], as_types: Mapping
     names = shaping.names if columns is None else tuple(columns)
     for name in as_types:
         if name not in names:
-            raise TypeMismatch(f"there is no column {name!r} among those that go out")
+            raise TypeMismatch(f"there is no column {quoted(name)} among those that go out")
     if len(set(names)) < len(names):
         raise TypeMismatch("a column goes out once")
     return {name: (shaping.column(name), as_types.get(name)) for name in names}
@@ -295,6 +294,8 @@ def check_columns(code: int, fault: ArrowFaultOf) -> None:
         return
     error, cause = error_of(code), fault.cause.decode(errors="replace")
     if cause:
-        error = type(error)(f"row {fault.row}, column {fault.column}: {cause}")
+        is_cell = re.match(r'column "([^"\\]|\\.)*"(\.\.)?: ', cause)
+        if is_cell or isinstance(error, (Duplicate, Missing, Full)):
+            error = type(error)(f"row {fault.row}{', ' if is_cell else ': '}{error}")
         error.row, error.column = fault.row, fault.column
     raise error

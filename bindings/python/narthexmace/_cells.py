@@ -3,12 +3,12 @@ from __future__ import annotations
 
 import ctypes
 import operator
-import reprlib
 from typing import Any, Iterable, List, Mapping, NamedTuple, Optional, Sequence, Tuple, Union
 
 from ._declared import Declared, declared_as
-from ._errors import TypeMismatch
+from ._errors import Duplicate, TypeMismatch, sentence_of
 from ._library import MAX_TEXT, library
+from ._sentences import key_shown, many, quoted, value_shown, wanted
 
 #: In a declared column also a float, a date, a datetime, a Decimal or None.
 Cell = Union[int, str, bool, Any]
@@ -16,9 +16,6 @@ Row = Tuple[Cell, ...]
 Key = Union[Cell, Sequence[Cell]]
 #: The numbers of cells, the bytes of their texts, and how many these are.
 Passed = Tuple[Any, bytes, int]
-
-_TELLS = reprlib.Repr()
-_TELLS.maxstring = _TELLS.maxother = 80
 
 INT, TEXT, BOOL = "int", "text", "bool"
 TYPES = {1: INT, 2: TEXT, 3: BOOL}
@@ -82,44 +79,44 @@ def is_time(value: object) -> bool:
 def number_of(value: object) -> int:
     """A value as a cell of an int column. A float is none, and neither is a boolean, or a date or time of numpy."""
     if is_time(value):
-        raise TypeMismatch(f"{value!r} stands where an int should: a column of dates or times is declared, as {DECLARED}")
+        raise TypeMismatch(f"{value_shown(value)} is not an int: a column of dates or times is declared, as {DECLARED}")
     if is_boolean(value):
-        raise TypeMismatch(f"{value!r} stands where an int should")
+        raise TypeMismatch(f"{value_shown(value)} is not an int")
     try:
         number = operator.index(value)  # type: ignore[arg-type]
     except TypeError:
-        raise TypeMismatch(f"{value!r} stands where an int should") from None
+        raise TypeMismatch(f"{value_shown(value)} is not an int") from None
     if not LEAST <= number <= MOST:
-        raise TypeMismatch(f"{number} has more than 64 bits")
+        raise TypeMismatch(f"{value_shown(number)} is not an int of 64 bits")
     return number
 
 
 def bytes_of(value: object) -> bytes:
     """A value as a cell of a text column, in UTF-8."""
     if not isinstance(value, str):
-        raise TypeMismatch(f"{value!r} stands where a text should")
+        raise TypeMismatch(f"{value_shown(value)} is not a text")
     try:
         text = value.encode()
     except UnicodeEncodeError:
-        raise TypeMismatch(f"{value!r} is no text that UTF-8 can write") from None
+        raise TypeMismatch(f"{value_shown(value)} is not a text that UTF-8 can write") from None
     if len(text) > MAX_TEXT:
-        raise TypeMismatch(f"a text has {len(text):,} bytes, and {MAX_TEXT:,} are the most")
+        raise TypeMismatch(f"the text has {len(text):,} bytes, and {MAX_TEXT:,} are the most")
     return text
 
 
 def boolean_of(value: object) -> bool:
     """A value as a cell of a bool column. A number is none."""
     if not is_boolean(value):
-        raise TypeMismatch(f"{value!r} stands where True or False should")
+        raise TypeMismatch(f"{value_shown(value)} is not a bool: True or False is wanted")
     return bool(value)
 
 
-def _other_columns(row: Mapping[str, Any], names: Sequence[str]) -> str:
+def other_columns(row: Mapping[str, Any], names: Sequence[str]) -> str:
     """Why a row by names has not the columns of a table."""
     for name in names:
         if name not in row:
-            return f"the row has no column {name!r}"
-    return f"the table has no column {next(name for name in row if name not in names)!r}"
+            return f"the row has no column {quoted(name)}"
+    return f"the table has no column {value_shown(next(name for name in row if name not in names))}"
 
 
 class Shaping:
@@ -141,13 +138,13 @@ class Shaping:
         try:
             return self.place[name]
         except (KeyError, TypeError):
-            raise TypeMismatch(f"there is no column {name!r}") from None
+            raise TypeMismatch(f"there is no column {value_shown(name)}") from None
 
     def row(self, row: Union[Sequence[Cell], Mapping[str, Cell]]) -> Passed:
         """A row for C: its cells in the order of the columns, or by their names."""
         if isinstance(row, Mapping):
             if set(row) != set(self.names):
-                raise TypeMismatch(_other_columns(row, self.names))
+                raise TypeMismatch(other_columns(row, self.names))
             row = [row[name] for name in self.names]
         return self._passed(row, len(self.types), "row")
 
@@ -158,8 +155,10 @@ class Shaping:
         return self._passed((key,), self.keys, "key")
 
     def _passed(self, cells: Sequence[Cell], count: int, what: str) -> Passed:
-        if isinstance(cells, (str, bytes)) or len(cells) != count:
-            raise TypeMismatch(f"the {what} {cells!r} has not {count} cell{'s' if count > 1 else ''}")
+        if isinstance(cells, (str, bytes)):
+            raise TypeMismatch(f"{value_shown(cells)} is not a {what}: {wanted(count)}")
+        if len(cells) != count:
+            raise TypeMismatch(f"the {what} has {many(len(cells), 'cell')}, and {wanted(count)}")
         numbers, texts = (ctypes.c_int64 * count)(), []
         for place, cell in enumerate(cells):
             numbers[place], text = self.cell(cell, place)
@@ -177,7 +176,7 @@ class Shaping:
         try:
             return self._written(cell, place)
         except TypeMismatch as fault:
-            raise TypeMismatch(f"column {self.names[place]!r}: {fault}") from None
+            raise TypeMismatch(f"column {quoted(self.names[place])}: {fault}") from None
 
     def _written(self, cell: Cell, place: int) -> Tuple[int, bytes]:
         type_, declared = self.types[place], self.declared[place]
@@ -195,10 +194,12 @@ class Shaping:
         cells = [row[name] for name in self.names[: self.keys]] if isinstance(row, Mapping) else row[: self.keys]
         return tuple(cells)
 
-    def told(self, key: Key) -> str:
-        """A key for people: a long text is cut."""
-        cells = key if isinstance(key, (tuple, list)) else (key,)
-        return _TELLS.repr(cells[0] if len(cells) == 1 else tuple(cells))
+    def told(self, code: int, key: Key) -> str:
+        """The sentence of a refusal that names a key, of the last call: with the values of declared columns, not with their ints."""
+        if not any(self.declared[: self.keys]):
+            return sentence_of(code)
+        told = key_shown(self.names, key if isinstance(key, (tuple, list)) else (key,))
+        return f"a row with the key {told} exists" if code == Duplicate.code else f"no row has the key {told}"
 
     def row_of(self, numbers: Iterable[int], texts: memoryview) -> Row:
         """The row whose cells C has put there."""

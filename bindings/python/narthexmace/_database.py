@@ -15,6 +15,7 @@ from ._handles import Single
 from ._library import CHECKPOINT_ENTRIES, FOLD_ENTRIES, JOURNAL_BYTES, KEPT_BYTES, MAX_NAME, MAX_RECENT, MAX_ROWS
 from ._library import DatabaseOptions, ReportOf, library
 from ._opening import Calls, Formats, folder_of, open_table, options_of
+from ._sentences import value_shown
 from ._table import Table
 from ._tables import KeyNames, TableSource
 
@@ -184,12 +185,12 @@ def connect(
 
 def _options_of(sync: str, limits: Dict[str, int], mode: int) -> DatabaseOptions:
     if sync not in _SYNCS:
-        raise BadLimit(f'sync is {sync!r}, and not "full", "normal" or "off"')
+        raise BadLimit(f'sync is {value_shown(sync)}: "full", "normal" or "off" is wanted')
     for name, limit in limits.items():
         if not 1 <= operator.index(limit) < 2**64:
-            raise BadLimit(f"{name} is {limit}, and not from 1 to 2**64 - 1")
+            raise BadLimit(f"{name} is {limit}: 1 to 2**64 - 1 is wanted")
     if not 1 <= operator.index(mode) <= 0o777:
-        raise BadLimit(f"mode is {mode:#o}, and not from 0o1 to 0o777")
+        raise BadLimit(f"mode is {mode:#o}: 0o1 to 0o777 is wanted")
     given = {name: operator.index(limit) for name, limit in limits.items()}
     return DatabaseOptions(size=ctypes.sizeof(DatabaseOptions), sync=_SYNCS[sync], mode=operator.index(mode), **given)
 
@@ -301,7 +302,8 @@ class Database(Single):
         options = options_of(recent, row_limit, conflicts)
         encoded = name_of(name)
         if encoded is None or len(encoded) > MAX_NAME or any(byte < 32 or byte == 127 for byte in encoded):
-            raise TypeMismatch(f"the name {name!r} is not a text of 1 to {MAX_NAME} bytes without control characters")
+            wanted = f"1 to {MAX_NAME} bytes of UTF-8 without control characters are wanted"
+            raise TypeMismatch(f"a table can't have the name {value_shown(name)}: {wanted}")
         room = ctypes.c_void_p()
         with self._handle as at:
             open_table(self._calls_in(at, name, encoded), table, key, types, options, room)
@@ -313,17 +315,20 @@ class Database(Single):
         def text(formats: Formats, csv: bytes, size: int, *given: Any) -> int:
             passed = _formats_of(formats)
             made = library.pdt_table_create_csv_declared(at, encoded, csv, size, passed, len(formats), *given)
-            return check_made(made, name, self._handle.folder)
+            return check_made(made, self._handle.folder)
+
+        def plain(csv: bytes, size: int, *given: Any) -> int:
+            return check_made(library.pdt_table_create_plain(at, encoded, csv, size, *given), self._handle.folder)
 
         def columns(formats: Formats, columns: Any, count: int, keys: int, *given: Any) -> int:
             passed = _formats_of(formats)
             made = library.pdt_table_create_declared(at, encoded, columns, count, keys, passed, *given)
-            return check_made(made, name, self._handle.folder)
+            return check_made(made, self._handle.folder)
 
         def arrow(stream: int, *given: Any) -> int:
-            return check_made(library.pdt_table_create_arrow(at, encoded, stream, *given), name, self._handle.folder)
+            return check_made(library.pdt_table_create_arrow(at, encoded, stream, *given), self._handle.folder)
 
-        return Calls(text, columns, arrow)
+        return Calls(text, plain, columns, arrow)
 
     def __getitem__(self, name: str) -> Table:
         """Return a table by its name, the same object each time.

@@ -13,6 +13,7 @@ from ._cells import Shaping, shaping_at
 from ._errors import Misuse, Missing, Path, check, check_files
 from ._handles import Address, Shared, Single, LoneHandle, TransactionHandle, call_into, take
 from ._library import MAX_NAME, NO_NUMBER, DatabaseCountsOf, library
+from ._sentences import quoted, value_shown
 
 
 def name_of(name: object) -> Optional[bytes]:
@@ -96,7 +97,7 @@ class DatabaseHandle(Shared):
         return None if kept is None else kept()
 
     def _missing(self, name: object) -> Missing:
-        return Missing(f"there is no table {name!r} in {os.fsdecode(self.folder)!r}")
+        return Missing(f"no table has the name {value_shown(name)}: {os.fsdecode(self.folder)!r}")
 
     def drop(self, name: object) -> None:
         """Drops a table, and takes its address from those who have it. Missing, Misuse, and those of files."""
@@ -284,7 +285,7 @@ class DatabaseTransactionHandle(Single):
                 with table as at:
                     code = library.pdt_dbtxn_on(self._address.room, at, byref(address.room))
                 if code == Missing.code:
-                    raise Missing(f"the table {table.name!r} was made after the transaction began")
+                    raise Missing(f"the table {quoted(table.name)} was created after the database transaction began")
                 check(code)
                 self._parts[table.name] = PartHandle(address, self._lock)
             return self._parts[table.name]

@@ -8,6 +8,7 @@ from decimal import Decimal
 from typing import Any, Callable, NamedTuple, Optional
 
 from ._errors import TypeMismatch
+from ._sentences import value_shown
 
 LEAST, MOST = -(2**63), 2**63 - 1
 _EPOCH_DAY = date(1970, 1, 1).toordinal()
@@ -48,7 +49,7 @@ def unit_of(format_: str) -> Optional[int]:
 
 
 def _wrong(value: object, what: str) -> TypeMismatch:
-    return TypeMismatch(f"{value!r} stands where {what} should")
+    return TypeMismatch(f"{value_shown(value)} is not {what}")
 
 
 def _number(value: object) -> int:
@@ -59,7 +60,7 @@ def _number(value: object) -> int:
 
 def _bounded(number: int, value: object) -> int:
     if not LEAST <= number <= MOST:
-        raise TypeMismatch(f"{value!r} is a number of more than 64 bits")
+        raise TypeMismatch(f"{value_shown(value)} is not a number of 64 bits")
     return number
 
 
@@ -74,7 +75,7 @@ def _with_nulls(kind: Declared) -> Declared:
             return LEAST
         found = kind.number(value)
         if found == LEAST:
-            raise TypeMismatch(f"{value!r} has the number that stands for None")
+            raise TypeMismatch(f"{value_shown(value)} has the number that stands for None")
         return found
 
     return Declared(value, number, kind.unit)
@@ -129,10 +130,10 @@ def _timestamps(unit: int, has_zone: bool) -> Declared:
         if not isinstance(value, datetime) or (value.tzinfo is not None) != has_zone:
             return _number_far(value, what)
         if getattr(value, "nanosecond", 0):  # of pandas
-            raise TypeMismatch(f"{value!r} is no whole number of the column's unit")
+            raise TypeMismatch(f"{value_shown(value)} is not a whole number of the column's unit")
         whole, rest = divmod((value - epoch) // timedelta(microseconds=1), unit)
         if rest:
-            raise TypeMismatch(f"{value!r} is no whole number of the column's unit")
+            raise TypeMismatch(f"{value_shown(value)} is not a whole number of the column's unit")
         return whole
 
     return Declared(value, number, "us")
@@ -152,13 +153,13 @@ def _decimals(digits: int, scale: int) -> Declared:
             raise _wrong(value, "a finite Decimal")
         whole, power = int("".join(map(str, figures))), exponent + scale
         if power > 40 or power < -len(figures) and whole:
-            raise TypeMismatch(f"{value!r} is no decimal of {digits} digits, {scale} of them behind the point")
+            raise TypeMismatch(f"{value_shown(value)} is not a decimal of {digits} digits, {scale} of them behind the point")
         if power < 0:
             whole, rest = divmod(whole, 10**-power)
         else:
             whole, rest = whole * 10**power, 0
         if rest or whole >= most:
-            raise TypeMismatch(f"{value!r} is no decimal of {digits} digits, {scale} of them behind the point")
+            raise TypeMismatch(f"{value_shown(value)} is not a decimal of {digits} digits, {scale} of them behind the point")
         return _bounded(-whole if sign else whole, value)
 
     return Declared(value, number)

@@ -386,9 +386,14 @@ _OF_DATABASES: Dict[int, Type[_OfDatabase]] = {kind.code: kind for kind in (Corr
 _REASONS = {Exists.code: errno.EEXIST, Locked.code: errno.EWOULDBLOCK}
 
 
+def sentence_of(code: int) -> str:
+    """The library's sentence for the code that the last call returned: no other call of this thread comes between."""
+    return str(library.pdt_errmsg(code).decode(errors="replace"))
+
+
 def error_of(code: int) -> Error:
-    """The exception of a code that is not PDT_OK."""
-    return _BY_CODE[code]() if code in _BY_CODE else Error(library.pdt_code_text(code).decode())
+    """The exception of a code that is not PDT_OK, which the last call has returned."""
+    return _BY_CODE.get(code, Error)(sentence_of(code))
 
 
 def check(code: int) -> None:
@@ -409,10 +414,10 @@ def check_files(code: int, folder: Path) -> None:
     raise _OF_FILES[code](f"{sentence}: {os.fsdecode(folder)!r}", number, folder)
 
 
-def check_made(code: int, name: str, folder: Path) -> int:
-    """Raises what the files of a database are refused for where a table of a name is made, and answers other codes."""
+def check_made(code: int, folder: Path) -> int:
+    """Raises what the files of a database are refused for where a table is made, and answers other codes."""
     if code == Exists.code:
-        raise Exists(f"there is a table {name!r} already: {os.fsdecode(folder)!r}", errno.EEXIST, folder)
+        raise Exists(f"{sentence_of(code)}: {os.fsdecode(folder)!r}", errno.EEXIST, folder)
     if code in _OF_FILES:
         check_files(code, folder)
     return code
@@ -427,7 +432,7 @@ def check_opening(code: int, folder: Path, report: ReportOf) -> None:
         return
     commit: Optional[int] = report.fault or None
     about = [repr(file)] if file is not None else [f"commit {commit}"] if commit is not None else []
-    sentence = f"{library.pdt_code_text(code).decode()}: {' in '.join([*about, repr(os.fsdecode(folder))])}"
+    sentence = f"{sentence_of(code)}: {' in '.join([*about, repr(os.fsdecode(folder))])}"
     if code not in _OF_DATABASES:
         raise _BY_CODE.get(code, Error)(sentence)
     error = _OF_DATABASES[code](sentence, None, where)
@@ -438,12 +443,7 @@ def check_opening(code: int, folder: Path, report: ReportOf) -> None:
 def check_text(code: int, fault: FaultOf) -> None:
     """As ``check``, of an opening over a text: a fault says what is wrong with that."""
     if code == BadTable.code:
-        raise bad_text(fault.row, fault.column, fault.cause.decode())
+        error = BadTable(sentence_of(code))
+        error.record, error.column, error.cause = fault.row, fault.column, fault.cause.decode()
+        raise error
     check(code)
-
-
-def bad_text(record: int, column: int, cause: str) -> BadTable:
-    """The exception of a fault of a text."""
-    error = BadTable(f"record {record}, column {column}: {cause}")
-    error.record, error.column, error.cause = record, column, cause
-    return error

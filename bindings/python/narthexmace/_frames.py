@@ -6,6 +6,7 @@ from typing import TYPE_CHECKING, Any, Optional
 from ._cells import BOOL, INT, LEAST, MOST, TEXT
 from ._declared import declared_as, unit_of
 from ._errors import TypeMismatch
+from ._sentences import quoted
 
 if TYPE_CHECKING:
     from pandas import Series
@@ -64,7 +65,7 @@ def _moments_of(cells: Any, nulls: Any, name: str, unit: int) -> Any:
     """The timestamps of a column, in nanoseconds: NaT of None. ``unit`` counts the microseconds of a unit."""
     most = MOST // (1000 * unit)
     if (((cells > most) | (cells < -most)) & ~nulls).any():
-        raise TypeMismatch(f"column {name!r} has a time outside of 1677 to 2262, which pandas' datetime64[ns] can't have")
+        raise TypeMismatch(f"column {quoted(name)} has a time outside of 1677 to 2262, which pandas' datetime64[ns] can't have")
     moments = (cells * (1000 * unit)).view("M8[ns]")
     moments[nulls] = "NaT"
     return moments

@@ -113,6 +113,12 @@ class FaultOf(ctypes.Structure):
     _fields_ = [("row", c_uint64), ("column", c_uint64), ("cause", c_char_p)]
 
 
+class PlainOf(ctypes.Structure):
+    """pdt_plain"""
+
+    _fields_ = [("size", c_size_t), ("key", c_void_p), ("key_count", c_size_t), ("sample", c_size_t)]
+
+
 class DatabaseOptions(ctypes.Structure):
     """pdt_database_options"""
 
@@ -168,7 +174,10 @@ _CELLS = [c_void_p, c_char_p, c_size_t]  # numbers, texts, and how many bytes th
 _CALLS = {
     "version": (c_char_p, []),
     "code_text": (c_char_p, [c_int]),
+    "errmsg": (c_char_p, [c_int]),
     "open_csv": (c_int, [c_char_p, c_size_t, c_void_p, c_void_p, c_void_p]),
+    "csv_has_types": (c_int, [c_char_p, c_size_t, c_void_p]),
+    "open_plain": (c_int, [c_char_p, c_size_t, c_void_p, c_void_p, c_void_p, c_void_p]),
     "open_columns": (c_int, [c_void_p, c_size_t, c_size_t, c_void_p, c_void_p, c_void_p]),
     "recover": (c_int, [c_char_p, c_void_p, c_void_p]),
     "close": (c_int, [c_void_p]),
@@ -239,6 +248,7 @@ _CALLS = {
         c_int,
         [c_void_p, c_char_p, c_char_p, c_size_t, c_void_p, c_size_t, c_void_p, c_void_p, c_void_p],
     ),
+    "table_create_plain": (c_int, [c_void_p, c_char_p, c_char_p, c_size_t, c_void_p, c_void_p, c_void_p, c_void_p]),
     "capsules": (None, [c_void_p, c_void_p]),
     "end_stream_capsule": (None, [c_void_p]),
     "end_schema_capsule": (None, [c_void_p]),

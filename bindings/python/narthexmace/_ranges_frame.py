@@ -18,6 +18,7 @@ from ._ranges_errors import Gone, TimedOut
 from ._ranges_layout import Layout
 from ._ranges_owner import Owner, owner_here
 from ._ranges_turns import Deadline
+from ._sentences import value_shown
 from ._snapshot import Snapshot
 
 if TYPE_CHECKING:
@@ -37,7 +38,7 @@ def frame_of(ranges: Sequence[Range], layout: Layout, vector: Sequence[int], nam
     types = {it.name: dtype_of(it.type, format_) for it, format_ in zip(layout.columns, layout.formats)}
     for name in names or ():
         if name not in types:
-            raise TypeMismatch(f"there is no column {name!r}")
+            raise TypeMismatch(f"there is no column {value_shown(name)}")
     key = layout.key
     index = key[0].name if len(key) == 1 and key[0].type in _ENDS and layout.formats[0] is None else None
     taken = {name: types[name] for name in (types if names is None else names) if name != index}

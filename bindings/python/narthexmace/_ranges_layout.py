@@ -7,10 +7,11 @@ from bisect import bisect_right
 from functools import lru_cache
 from typing import Any, Callable, Dict, Mapping, NamedTuple, Optional, Sequence, Tuple, Union, cast
 
-from ._cells import BOOL, INT, TEXT, Cell, Column, Key, Row, bytes_of, number_of, boolean_of
+from ._cells import BOOL, INT, TEXT, Cell, Column, Key, Row, bytes_of, number_of, other_columns, boolean_of
 from ._declared import Declared, declared_as
 from ._errors import BadTable, Incomplete, TypeMismatch
 from ._ranges_log import write_whole
+from ._sentences import many, quoted, value_shown, wanted
 
 #: The file of a folder that says it.
 NAME = "ranges.json"
@@ -41,18 +42,21 @@ class Layout(NamedTuple):
         """A key as its cells. TypeMismatch."""
         columns = self.key
         cells = [key] if len(columns) == 1 and not isinstance(key, (tuple, list)) else key
-        if not isinstance(cells, (tuple, list)) or len(cells) != len(columns):
-            raise TypeMismatch(f"the key has {len(columns)} cells: {', '.join(column.name for column in columns)}")
+        if not isinstance(cells, (tuple, list)):
+            raise TypeMismatch(f"{value_shown(cells)} is not a key: {wanted(len(columns))}")
+        if len(cells) != len(columns):
+            raise TypeMismatch(f"the key has {many(len(cells), 'cell')}, and {wanted(len(columns))}")
         return tuple(map(_cell, cells, columns, kinds_of(self.formats)))
 
     def row_of(self, row: Union[Sequence[Cell], Mapping[str, Cell]]) -> Row:
         """A row, given in the order of the columns or by their names, as its cells. TypeMismatch."""
         if isinstance(row, Mapping):
-            if set(row) != {column.name for column in self.columns}:
-                raise TypeMismatch("a row has a cell of each column, by its name")
+            names = [column.name for column in self.columns]
+            if set(row) != set(names):
+                raise TypeMismatch(other_columns(row, names))
             row = [row[column.name] for column in self.columns]
         if len(row) != len(self.columns):
-            raise TypeMismatch(f"a row has {len(self.columns)} cells, and {len(row)} came")
+            raise TypeMismatch(f"the row has {many(len(row), 'cell')}, and {wanted(len(self.columns))}")
         return tuple(map(_cell, row, self.columns, kinds_of(self.formats)))
 
     def write(self, folder: str) -> None:
@@ -92,7 +96,7 @@ def _cell(value: Any, column: Column, kind: Optional[Declared]) -> Any:
     try:
         return _CELLS[column.type](value) if kind is None else kind.value(kind.number(value))
     except TypeMismatch as fault:
-        raise TypeMismatch(f"column {column.name!r}: {fault}") from None
+        raise TypeMismatch(f"column {quoted(column.name)}: {fault}") from None
 
 
 def layout_at(path: str) -> Layout:

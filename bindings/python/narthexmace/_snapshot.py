@@ -16,6 +16,7 @@ from ._frames import series_of
 from ._handles import Single, TransactionHandle
 from ._library import library
 from ._reads import aligned, column_of, int_spans_of, runs_of
+from ._sentences import quoted
 
 if TYPE_CHECKING:
     from pandas import DataFrame
@@ -417,7 +418,7 @@ class Snapshot(Single):
     def _int_column(self, name: str) -> int:
         place = self._shaping.column(name)
         if self._shaping.types[place] != INT:
-            raise TypeMismatch(f"column {name!r} has no ints")
+            raise TypeMismatch(f"column {quoted(name)} is not an int column")
         return place
 
     def _lend(self, places: Sequence[int], start: int, stop: Optional[int]) -> List[Tuple[memoryview, ...]]:

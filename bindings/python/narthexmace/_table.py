@@ -12,7 +12,7 @@ from typing import Any, Dict, Iterator, List, Mapping, NamedTuple, Optional, Seq
 
 from ._arrow import BATCH, ArrowScan, Asked
 from ._cells import Column, Key
-from ._errors import Misuse, Missing, NotKept, Path, TypeMismatch, check, check_files
+from ._errors import Misuse, Missing, NotKept, Path, TypeMismatch, check, check_files, sentence_of
 from ._handles import PinHandle, Single, LoneHandle, TransactionHandle
 from ._layers import Entry, Layer
 from ._library import MAX_RECENT, MAX_ROWS, CountsOf, SizesOf, library
@@ -131,13 +131,15 @@ def open(
     Parameters
     ----------
     table : str, bytes, os.PathLike, mapping, DataFrame or object with ``__arrow_c_stream__``
-        A CSV text: ``bytes``, or a ``str`` with a line end; its first record names the columns, as
-        ``id:int:key,name:text``. Any other ``str``, and an ``os.PathLike``, is the path of such a text. Columns: a
+        A CSV text: ``bytes``, or a ``str`` with a line end. Its first record names the columns: with their types, as
+        ``id:int:key,name:text``, or alone, as ``id,name``. Then a column is of ints or booleans if each of its cells in
+        the first 1,000 records is an integer, or ``true`` or ``false``, and else of texts; a later cell that isn't of
+        that type is refused. Any other ``str``, and an ``os.PathLike``, is the path of such a text. Columns: a
         mapping from names to lists or arrays, or a DataFrame of pandas. A stream: a table of pyarrow, a DataFrame of
         polars or any other object that has one, read batch by batch.
     key : str or sequence of str, optional
-        The columns that are the key, which come first then. Needed for columns and streams; a CSV text has it in its
-        header.
+        The columns that are the key, which come first then. Needed for columns and streams. For a CSV text without
+        types it is the first column by default; one with types has it in its header.
     types : mapping of str to str, optional
         Types of some columns: "int", "text" or "bool", or a format that ``Table.declare`` takes, as "g" for floats.
         Only for columns; a CSV text and a stream have types of their own.
@@ -466,8 +468,6 @@ class Table(Single):
         place = self._shaping.column(column)
         with self._handle as at:
             code = library.pdt_declare(at, place, format and format.encode())
-        if code == TypeMismatch.code:
-            raise TypeMismatch(f"column {column!r} is of no such format: {format!r}")
         check_files(code, column)
         self._shaping.declare(place, format)
 
@@ -644,7 +644,7 @@ class Table(Single):
         with self._handle as at:
             code = library.pdt_changes(at, number, byref(layer.room))
         if code == Missing.code:
-            error = NotKept(f"the changes of commit {number} are not kept, and {newest} is the newest one")
+            error = NotKept(f"{sentence_of(code)}, and {newest} is the newest one")
             error.number = number
             raise error
         check(code)

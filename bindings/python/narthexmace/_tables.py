@@ -9,6 +9,7 @@ from typing import Protocol, Sequence, Union
 from ._cells import BOOL, DECLARED, INT, TEXT, Column, Shaping, bytes_of, is_time, is_boolean, number_of, boolean_of
 from ._declared import Declared, declared_as
 from ._errors import BadTable, TypeMismatch
+from ._sentences import quoted, value_shown
 
 if TYPE_CHECKING:
     from pandas import DataFrame
@@ -59,9 +60,9 @@ def columns_of(table: object) -> Optional[Dict[str, Any]]:
     names = list(table.keys())
     for name in names:
         if not isinstance(name, str):
-            raise TypeMismatch(f"a column has the name {name!r}, which is no text")
+            raise TypeMismatch(f"a column has the name {value_shown(name)}, which is not a text")
     if len(set(names)) < len(names):
-        raise TypeMismatch("two columns have one name")
+        raise TypeMismatch(f"two columns have the name {quoted(next(name for name in names if names.count(name) > 1))}")
     columns = {name: table[name] for name in names}
     for name, cells in columns.items():
         _check_listed(name, cells)
@@ -71,10 +72,11 @@ def columns_of(table: object) -> Optional[Dict[str, Any]]:
 def _check_listed(name: str, cells: object) -> None:
     """TypeMismatch, of what has no cells one after the other, or has some of them behind a mask."""
     if isinstance(cells, (str, bytes, bytearray, AbstractSet, Mapping)):
-        raise TypeMismatch(f"column {name!r} is a {type(cells).__name__}: a column is a list or an array of cells")
+        raise TypeMismatch(f"column {quoted(name)} is a {type(cells).__name__}: a column is a list or an array of cells")
     if hasattr(cells, "filled") and hasattr(cells, "mask"):  # numpy's masked arrays, whose memory has all cells
         raise TypeMismatch(
-            f"column {name!r} is a masked array: filled() makes an array of it, and a list may have None where types " "declare it, as '?l'"
+            f"column {quoted(name)} is a masked array: filled() makes an array of it, and a list may have None where types "
+            "declare it, as '?l'"
         )
 
 
@@ -83,7 +85,7 @@ def named_columns(columns: Mapping[str, Any], key: Optional[KeyNames], types: Op
     names, types = [key] if isinstance(key, str) else list(key or ()), types or {}
     for name in (*names, *types):
         if name not in columns:
-            raise TypeMismatch(f"there is no column {name!r}")
+            raise TypeMismatch(f"there is no column {value_shown(name)}")
     if not names or len(set(names)) < len(names):
         raise TypeMismatch("the key names the columns that are the key, each once")
     if any("\0" in name for name in columns):
@@ -93,16 +95,18 @@ def named_columns(columns: Mapping[str, Any], key: Optional[KeyNames], types: Op
         declared = declared_by(types.get(name))
         if declared is not None:
             if name in names and types[name].startswith("?"):
-                raise TypeMismatch(f"column {name!r} is of the key, which has no None")
+                raise TypeMismatch(f"column {quoted(name)} is a key column, which has no None")
             column = Named(name, INT, (), name in names)
             listed.append(column._replace(cells=_numbers(column, declared, columns[name])))
             continue
         if is_time(columns[name]):
-            raise TypeMismatch(f"column {name!r} has dates or times, which types declare: as {DECLARED}")
+            raise TypeMismatch(f"column {quoted(name)} has dates or times, which types declare: as {DECLARED}")
         cells = array_of(columns[name]) or _listed(columns[name])
         type_ = types[name] if name in types else _type_of(name, cells)
         if type_ not in _WRITERS:
-            raise TypeMismatch(f"column {name!r} has the type {type_!r}: there are int, text and bool, and formats, as {DECLARED}")
+            raise TypeMismatch(
+                f"column {quoted(name)} has the type {value_shown(type_)}: there are int, text and bool, and formats, as {DECLARED}"
+            )
         if isinstance(cells, memoryview) and type_of_array(cells) != type_:
             cells = cells.tolist()
         listed.append(Named(name, type_, cells, name in names))
@@ -118,9 +122,9 @@ def columns_for(rows: object, shaping: Shaping, keys_alone: bool) -> List[Named]
     taken = [column for column in shaping.columns if column.key or not keys_alone]
     for column in taken:
         if column.name not in columns:
-            raise TypeMismatch(f"column {column.name!r} of the table isn't there")
+            raise TypeMismatch(f"column {quoted(column.name)} of the table isn't there")
     if not keys_alone and len(columns) > len(taken):
-        raise TypeMismatch(f"the table has no column {next(iter(set(columns) - {it.name for it in taken}))!r}")
+        raise TypeMismatch(f"the table has no column {quoted(next(iter(set(columns) - {it.name for it in taken})))}")
     listed = []
     for column in taken:
         given, declared = columns[column.name], shaping.declared[shaping.column(column.name)]
@@ -130,7 +134,7 @@ def columns_for(rows: object, shaping: Shaping, keys_alone: bool) -> List[Named]
         elif is_time(given):
             format_ = shaping.formats[shaping.column(column.name)]
             stands = f"is declared {format_!r}, whose values are ints" if format_ else f"isn't declared, as {DECLARED}"
-            raise TypeMismatch(f"column {column.name!r} has dates or times, and {stands}")
+            raise TypeMismatch(f"column {quoted(column.name)} has dates or times, and {stands}")
         else:
             cells = array_of(given) or _listed(given)
         if isinstance(cells, memoryview) and type_of_array(cells) != column.type:
@@ -151,7 +155,7 @@ def _numbers(column: Union[Named, Column], declared: Declared, given: Any) -> Li
     if is_time(given):
         rounded = given.astype(f"datetime64[{declared.unit}]") if declared.unit and given.dtype.kind == "M" else None
         if rounded is None or ((rounded != given) & (rounded == rounded)).any():
-            raise TypeMismatch(f"column {column.name!r} has dates or times that are no values of it")
+            raise TypeMismatch(f"column {quoted(column.name)} has dates or times that are not values of it")
         given = rounded
     return [written(column, declared.number, cell) for cell in _listed(given)]
 
@@ -166,22 +170,11 @@ def formats_of(types: Optional[Mapping[str, str]]) -> Dict[str, str]:
     return {name: type_ for name, type_ in (types or {}).items() if declared_by(type_) is not None}
 
 
-def fault_of_columns(columns: Sequence[Named]) -> str:
-    """Why columns of equally many cells make no table."""
-    for column in columns:
-        if not 1 <= len(encoded(column.name)) <= 64 or ":" in column.name:
-            return f"the name {column.name!r} is not one of 1 to 64 bytes without a colon"
-    keys = sum(column.key for column in columns)
-    if keys > 4:
-        return f"the key has {keys} columns, and 4 are the most"
-    return f"there are {len(columns)} columns, and 32 are the most"
-
-
 def text_of_columns(columns: Iterable[Named]) -> bytes:
     """Columns as a CSV text."""
     headings, fields = [], []
     for column in columns:
-        headings.append(_quoted(encoded(f"{column.name}:{column.type}{':key' if column.key else ''}")))
+        headings.append(_field(encoded(f"{column.name}:{column.type}{':key' if column.key else ''}")))
         fields.append([written(column, _WRITERS[column.type], cell) for cell in column.cells])
     return b"\n".join([b",".join(headings), *map(b",".join, zip(*fields)), b""])
 
@@ -221,9 +214,9 @@ def _type_of(name: str, cells: Sequence[Any]) -> str:
     if len(kinds) == 1 and None not in kinds:
         return str(kinds.pop())
     if not cells:
-        raise TypeMismatch(f"column {name!r} has no cells: types must name its type")
+        raise TypeMismatch(f"column {quoted(name)} has no cells: types must name its type")
     raise TypeMismatch(
-        f"the cells of column {name!r} are not all ints, all texts or all booleans: types declare other values, as {DECLARED}"
+        f"the cells of column {quoted(name)} are not all ints, all texts or all booleans: types declare other values, as {DECLARED}"
     )
 
 
@@ -240,23 +233,23 @@ def written(column: Union[Named, Column], write: Callable[[Any], Any], cell: obj
     try:
         return write(cell)
     except TypeMismatch as fault:
-        raise TypeMismatch(f"column {column.name!r}: {fault}") from None
+        raise TypeMismatch(f"column {quoted(column.name)}: {fault}") from None
 
 
 def encoded(text: str) -> bytes:
     try:
         return text.encode()
     except UnicodeEncodeError:
-        raise TypeMismatch(f"{text!r} is no text that UTF-8 can write") from None
+        raise TypeMismatch(f"{value_shown(text)} is not a text that UTF-8 can write") from None
 
 
-def _quoted(text: bytes) -> bytes:
+def _field(text: bytes) -> bytes:
     """A field in quotes: it may have commas, quotes and ends of lines, and an empty one alone is still a record."""
     return b'"' + text.replace(b'"', b'""') + b'"'
 
 
 _WRITERS: Dict[str, Callable[[Any], bytes]] = {
     INT: lambda cell: b"%d" % number_of(cell),
-    TEXT: lambda cell: _quoted(bytes_of(cell)),
+    TEXT: lambda cell: _field(bytes_of(cell)),
     BOOL: lambda cell: b"true" if boolean_of(cell) else b"false",
 }

@@ -12,6 +12,7 @@ from ._columns import PassedColumns
 from ._errors import Duplicate, Missing, TypeMismatch, check, error_of
 from ._layers import Entry, Layer
 from ._library import NO_NUMBER, library
+from ._sentences import quoted
 from ._snapshot import Snapshot
 from ._tables import Many, columns_for
 
@@ -135,7 +136,7 @@ class Transaction(Snapshot):
             self._handle.take_back()
             code = library.pdt_insert(at, numbers, texts, count)
             if code == Duplicate.code:
-                raise Duplicate(f"there is a row of the key {self._told(self._shaping.key_in(row))} already")
+                raise Duplicate(self._told(code, self._shaping.key_in(row)))
             check(code)
             self._writes += 1
 
@@ -195,7 +196,7 @@ class Transaction(Snapshot):
         numbers, texts, count = self._shaping.key(key)
         place = self._shaping.column(column)
         if self._shaping.columns[place].key:
-            raise TypeMismatch(f"column {column!r} belongs to the key, and is not set")
+            raise TypeMismatch(f"column {quoted(column)} is a key column, which can't be set")
         number, text = self._shaping.cell(value, place)
         with self._handle as at:
             self._handle.take_back()
@@ -204,13 +205,13 @@ class Transaction(Snapshot):
 
     def _check_there(self, code: int, key: Key) -> None:
         if code == Missing.code:
-            raise Missing(f"there is no row of the key {self._told(key)}")
+            raise Missing(self._told(code, key))
         check(code)
 
-    def _told(self, key: Key) -> str:
-        """A key, and the table that it is in, for people."""
-        name = self._handle.name
-        return self._shaping.told(key) + ("" if name is None else f" in the table {name!r}")
+    def _told(self, code: int, key: Key) -> str:
+        """The sentence of a refusal that names a key, and the table of a database that it is in."""
+        sentence, name = self._shaping.told(code, key), self._handle.name
+        return sentence if name is None else f"{sentence} in the table {quoted(name)}"
 
     def insert_many(self, rows: Many) -> int:
         """Insert the rows of columns: all of them, or none.

@@ -185,7 +185,8 @@ class Streams(unittest.TestCase):
                 narthexmace.open(producer, key=drawn.names[: drawn.keys])
             fault = caught.exception
             self.assertEqual(((fault.row, fault.column), producer.live), (producer.null_at, 0))
-            self.assertTrue(str(fault).endswith(f"column {producer.columns[producer.null_at[1]].name} has a null"))
+            name = producer.columns[producer.null_at[1]].name
+            self.assertTrue(str(fault).endswith(f'column "{name}": a null isn\'t allowed'))
 
     def test_drawn_streams_are_the_models_rows(self) -> None:
         for seed in range(SEED, SEED + CASES):
@@ -251,7 +252,7 @@ class Formats(unittest.TestCase):
             with table.begin() as txn:
                 txn.upsert_many(arrow.Producer(columns, [[(3, 1.0, 2.0, 5, 6, 7)]]))
                 columns[3].format = "tdm"
-                with self.assertRaisesRegex(narthexmace.TypeMismatch, r"column day is declared as \?tdD, and comes in as tdm"):
+                with self.assertRaisesRegex(narthexmace.TypeMismatch, r'column "day" is declared as \?tdD, and comes in as tdm'):
                     txn.upsert_many(arrow.Producer(columns, [rows]))
             self.assertEqual(arrow.rows_of(table)[2], (3, 1.0, 2.0, 5, 6, 7))
             for column, format_ in (("id", "?l"), ("x", "u"), ("nope", "g")):
@@ -451,11 +452,11 @@ class Refusals(unittest.TestCase):
     def test_refusals_say_where(self) -> None:
         key, number = arrow.Column("id", "l"), arrow.Column("n", "L")
         rows = [(1, 1), (2, 2), (3, 2**63)]
-        self.refused(narthexmace.TypeMismatch, [key, number], rows, 2, 1, "column n has a number above 9,223,372,036,854,775,807")
-        self.refused(narthexmace.Duplicate, [key], [(1,), (3,), (1,)], 2, 0, "the key is that of an earlier row")
+        self.refused(narthexmace.TypeMismatch, [key, number], rows, 2, 1, 'column "n": the number is above 9,223,372,036,854,775,807')
+        self.refused(narthexmace.Duplicate, [key], [(1,), (3,), (1,)], 2, 0, "the key id=1 is that of an earlier row")
         self.refused(narthexmace.DeviceFailed, [key], [(1,), (2,), (3,)], 2, 0, "made to fail", fails_at=1)
         self.refused(narthexmace.TypeMismatch, [key, arrow.Column("t", "u")], [(1, "a"), (2, "b"), (3, "x" * 4097)], 2, 1, "4,096")
-        self.refused(narthexmace.BadTable, [arrow.Column("ID", "l")], [(1,)], 0, 0, "there is no column id")
+        self.refused(narthexmace.BadTable, [arrow.Column("ID", "l")], [(1,)], 0, 0, 'there is no column "id"')
         with self.assertRaises(narthexmace.BadTable):
             narthexmace.open(arrow.Producer([key], []))
         with self.assertRaises(TypeError):
@@ -464,10 +465,10 @@ class Refusals(unittest.TestCase):
     def test_rows_of_columns(self) -> None:
         with narthexmace.open("id:int:key,t:text\n1,a\n5,b\n") as table, table.begin() as txn:
             for columns, said in (
-                ({"id": [2]}, "column 't' of the table isn't there"),
-                ({"id": [2], "t": ["x"], "z": [1]}, "the table has no column 'z'"),
+                ({"id": [2]}, 'column "t" of the table isn\'t there'),
+                ({"id": [2], "t": ["x"], "z": [1]}, 'the table has no column "z"'),
                 ({"id": [2, 3], "t": ["x"]}, "the columns have 1 and 2 cells"),
-                ({"id": [2], "t": [7]}, "7 stands where a text should"),
+                ({"id": [2], "t": [7]}, "7 is not a text"),
             ):  # fmt: skip
                 with self.assertRaisesRegex(narthexmace.TypeMismatch, said):
                     txn.insert_many(columns)

@@ -391,7 +391,7 @@ class Pandas(Case):
         frame = pandas.DataFrame({"id": [1, 2], "at": pandas.to_datetime(["2026-01-01", "2026-01-02"])})
         for given, why in [
             (frame, "dates or times"),
-            (pandas.DataFrame([[1, 2]], columns=["id", "id"]), "one name"),
+            (pandas.DataFrame([[1, 2]], columns=["id", "id"]), 'two columns have the name "id"'),
             (pandas.DataFrame([[1, 2]], columns=["id", 5]), "no text"),
             (pandas.DataFrame({"id": [1, None]}), "not all ints"),
             (pandas.DataFrame({"id": [1.0, 2.0]}), "not all ints"),

@@ -13,6 +13,7 @@ from unittest import mock
 
 import narthexmace
 from narthexmace import _library
+from narthexmace._sentences import value_shown
 
 from . import LIMIT
 from .drawing import pandas
@@ -314,7 +315,7 @@ class Tables(Case):
                 self.assertFalse(name in db)
                 fault = self.refused(narthexmace.Missing, db.__getitem__, name)
                 self.assertIsInstance(fault, KeyError)
-                self.assertIn(repr(name), str(fault))
+                self.assertIn(f"no table has the name {value_shown(name)}", str(fault))
                 self.refused(narthexmace.Missing, db.drop, name)
                 self.refused(narthexmace.TypeMismatch, db.create, name, ITEMS)
             self.assertEqual((list(db), len(db), "items" in db), (good, len(good), True))
@@ -329,7 +330,7 @@ class Tables(Case):
                 fault = self.refused(narthexmace.Exists, db.create, "items", table, **words)
                 self.assertIsInstance(fault, FileExistsError)
                 self.assertEqual((fault.errno, fault.filename), (errno.EEXIST, self.folder))
-                self.assertIn("'items'", str(fault))
+                self.assertIn('"items"', str(fault))
             for kind, table, words in [
                 (narthexmace.BadTable, "id:int\n", {}),
                 (narthexmace.BadTable, {"id": [1, 1]}, {"key": "id"}),

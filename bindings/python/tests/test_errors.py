@@ -66,7 +66,8 @@ class Codes(unittest.TestCase):
         unsure = narthexmace.OutcomeUnknown("the device failed", None, "folder")
         unsure.commits = 7
         locked = narthexmace.Locked("it is open", errno.EWOULDBLOCK, "folder")
-        missing, bad = narthexmace.Missing(), narthexmace._errors.bad_text(3, 1, "no value")
+        missing, bad = narthexmace.Missing(), narthexmace.BadTable("record 3, column 1: no value")
+        bad.record, bad.column, bad.cause = 3, 1, "no value"
         for fault in (missing, bad, file, refused, unsure, locked):
             again = pickle.loads(pickle.dumps(fault))
             self.assertEqual((type(again), str(again), vars(again)), (type(fault), str(fault), vars(fault)))
@@ -113,34 +114,41 @@ class Writes(Case):
             self.assertEqual(txn[:], ROWS)
             with self.assertRaises(KeyError) as caught:
                 txn.delete(30)
-            self.assertEqual(str(caught.exception), "there is no row of the key 30")  # and not in quotes
+            self.assertEqual(str(caught.exception), "no row has the key id=30")  # and not in quotes
 
     def test_refusals_name_the_key_and_the_column(self) -> None:
         """And the table of a database, also in a database transaction."""
         pairs = {"town": ["x", "y"], "there": [False, True], "n": [1, 2]}
         with narthexmace.open(pairs, key=["town", "there"]) as table, table.begin() as txn:
             for call, given, why in [
-                (txn.insert, (("x", False, 3),), "there is a row of the key ('x', False) already"),
-                (txn.insert, ({"n": 3, "there": True, "town": "y"},), "there is a row of the key ('y', True) already"),
-                (txn.delete, (("x", True),), "there is no row of the key ('x', True)"),
-                (txn.set, (("z" * 4000, True), "n", 1), "there is no row of the key ('zzz"),
-                (txn.insert, ({"n": 3, "there": True},), "the row has no column 'town'"),
-                (txn.insert, ({"n": 3, "there": True, "town": "", "m": 1},), "the table has no column 'm'"),
-                (txn.insert, (("z", True, 1.5),), "column 'n': 1.5 stands where an int should"),
-                (txn.delete, (("x", 1),), "column 'there': 1 stands where True or False should"),
-                (txn.set, (("x", True), "n", "1"), "column 'n': '1' stands where an int should"),
+                (txn.insert, (("x", False, 3),), 'a row with the key town="x", there=false exists'),
+                (txn.insert, ({"n": 3, "there": True, "town": "y"},), 'a row with the key town="y", there=true exists'),
+                (txn.delete, (("x", True),), 'no row has the key town="x", there=true'),
+                (txn.delete, (('a\n"\0', True),), 'no row has the key town="a\\n\\"\\x00", there=true'),
+                (txn.set, (("z" * 4000, True), "n", 1), f'no row has the key town="{"z" * 64}".., there=true'),
+                (txn.insert, ({"n": 3, "there": True},), 'the row has no column "town"'),
+                (txn.insert, ({"n": 3, "there": True, "town": "", "m": 1},), 'the table has no column "m"'),
+                (txn.insert, (("z", True),), "the row has 2 cells, and 3 are wanted"),
+                (txn.delete, (("x",),), "the key has 1 cell, and 2 are wanted"),
+                (txn.insert, (("z", True, 1.5),), 'column "n": 1.5 is not an int'),
+                (txn.insert, (("z", True, 2**63),), 'column "n": 9223372036854775808 is not an int of 64 bits'),
+                (txn.insert, ((7, True, 1),), 'column "town": 7 is not a text'),
+                (txn.insert, (("x" * 5000, True, 1),), 'column "town": the text has 5,000 bytes, and 4,096 are the most'),
+                (txn.insert, (("\ud800", True, 1),), 'column "town": "\\ud800" is not a text that UTF-8 can write'),
+                (txn.delete, (("x", 1),), 'column "there": 1 is not a bool: True or False is wanted'),
+                (txn.set, (("x", True), "n", "1"), 'column "n": "1" is not an int'),
+                (txn.set, (("x", False), "m", 1), 'there is no column "m"'),
+                (txn.set, (("x", False), "town", "z"), 'column "town" is a key column, which can\'t be set'),
             ]:
                 with self.assertRaises(narthexmace.Error) as caught:
                     call(*given)
-                told = str(caught.exception)
-                self.assertEqual(told[: len(why)], why)
-                self.assertLess(len(told), 200)
+                self.assertEqual(str(caught.exception), why)
         with tempfile.TemporaryDirectory() as folder, narthexmace.connect(Path(folder, "shop")) as db:
             items = db.create("items", {"id": [1]}, key="id")
             with items.begin() as txn:
-                self.assertRaisesRegex(narthexmace.Duplicate, "of the key 1 in the table 'items' already", txn.insert, (1,))
+                self.assertRaisesRegex(narthexmace.Duplicate, '^a row with the key id=1 exists in the table "items"$', txn.insert, (1,))
             with db.begin() as dbtxn:
-                self.assertRaisesRegex(narthexmace.Missing, "no row of the key 2 in the table 'items'", dbtxn["items"].delete, 2)
+                self.assertRaisesRegex(narthexmace.Missing, '^no row has the key id=2 in the table "items"$', dbtxn["items"].delete, 2)
 
     def test_refusals_name_the_way_in_for_other_values(self) -> None:
         """Floats, dates and NULL are declared: no advice is false."""
@@ -361,20 +369,20 @@ class Openings(Case):
             if column is not None:
                 self.assertEqual(fault.column, column, text[:60])
             self.assertRegex(str(fault.cause), r"\w+ \w+ \w+")
-            self.assertEqual(str(fault), f"record {fault.record}, column {fault.column}: {fault.cause}")
+            self.assertRegex(str(fault), rf"^line ({fault.record}|\d+ \(record {fault.record}\))[:,] ")
 
     def test_columns_that_are_no_table_have_their_cause(self) -> None:
         for columns, why in [
-            ({"a:b": [1]}, "'a:b'"),
-            ({"": [1]}, "''"),
+            ({"a:b": [1]}, '^column 0 has the name "a:b": 1 to 64 bytes of UTF-8 without a colon are wanted$'),
+            ({"": [1]}, '^column 0 has the name "": '),
             ({"é" * 33: [1]}, "64 bytes"),
-            ({str(number): [1] for number in range(33)}, "33 columns, and 32"),
+            ({str(number): [1] for number in range(33)}, "there are 33 columns: 1 to 32 are wanted"),
         ]:
             with self.assertRaisesRegex(narthexmace.BadTable, why):
                 narthexmace.open(columns, key=next(iter(columns)))
-        with self.assertRaisesRegex(narthexmace.BadTable, "the key has 5 columns, and 4"):
+        with self.assertRaisesRegex(narthexmace.BadTable, "^the key has 5 columns: 1 to 4 are wanted$"):
             narthexmace.open({name: [1] for name in "abcde"}, key=list("abcde"))
-        with self.assertRaisesRegex(narthexmace.BadTable, "^row 3, which counts from 0, has the key of an earlier one"):
+        with self.assertRaisesRegex(narthexmace.BadTable, "^row 3: the key id=1 is that of an earlier row$"):
             narthexmace.open({"id": [3, 1, 2, 1]}, key="id")
 
     def test_limits(self) -> None:

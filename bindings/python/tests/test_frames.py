@@ -97,7 +97,7 @@ class Frames(unittest.TestCase):
             for wrong in (datetime(9999, 12, 31, tzinfo=zone), datetime(1, 1, 1, tzinfo=zone)):
                 values = [datetime(2026, 1, 1, tzinfo=zone), wrong]
                 with self.subTest(values=values), opened(format_, values) as table, table.read() as snapshot:
-                    self.assertRaisesRegex(narthexmace.TypeMismatch, "column 'v' has a time outside", snapshot.to_pandas)
+                    self.assertRaisesRegex(narthexmace.TypeMismatch, 'column "v" has a time outside', snapshot.to_pandas)
                     self.assertEqual(len(snapshot.to_pandas(["k"])), 2)
 
     def test_a_frame_has_memory_of_its_own(self) -> None:
@@ -123,14 +123,14 @@ class Columns(unittest.TestCase):
     def test_texts_bytes_and_sets_are_no_columns(self) -> None:
         some = {1: 1, 2: 2, 3: 3}
         for cells in (b"abc", bytearray(b"abc"), "abc", {1, 2, 3}, frozenset((1, 2, 3)), some, some.keys()):
-            self.refused(cells, "column 'n' is a ")
+            self.refused(cells, 'column "n" is a ')
 
     @unittest.skipUnless(numpy, "numpy isn't there")
     def test_masked_arrays_are_no_columns(self) -> None:
         for mask in ([0, 1, 0], [0, 0, 0]):
             array = numpy.ma.array([1, 2, 3], mask=mask)
-            self.refused(array, "column 'n' is a masked array")
-            self.refused(array, "column 'n' is a masked array", {"n": "?l"})
+            self.refused(array, 'column "n" is a masked array')
+            self.refused(array, 'column "n" is a masked array', {"n": "?l"})
         with narthexmace.open({"id": [1, 2, 3], "n": array.filled(0)}, key="id") as table, table.read() as snapshot:
             self.assertEqual(snapshot[:], [(1, 1), (2, 2), (3, 3)])
 

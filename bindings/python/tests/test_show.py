@@ -234,7 +234,7 @@ class Pictures(unittest.TestCase):
                 folder, table="id:int:key\n1\n", bad="id:int\n", jump="a,begin\na,jump\n", long="a,get,1,2\n"
             )
             for words, due in [
-                ((bad,), "record 1, column 0: the key has no column"),
+                ((bad,), "line 1: 0 key columns, and 1 to 4 are wanted"),
                 ((str(Path(folder, "no")),), "No such file"),
                 ((table, "--script", jump), "record 2 is no call: there is no verb 'jump' here"),
                 ((table, "--script", long), "record 1 is no call: get takes 1 arguments"),

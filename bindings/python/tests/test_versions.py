@@ -263,7 +263,7 @@ class Changes(Case):
         return list(self.table.changes(after=after))
 
     def not_kept(self, call: Callable[[], Any], number: int, newest: int) -> None:
-        with self.assertRaisesRegex(NotKept, f"commit {number} are not kept, and {newest} is the newest") as caught:
+        with self.assertRaisesRegex(NotKept, f"^the changes of commit {number} aren't retained, and {newest} is the newest one$") as caught:
             call()
         self.assertEqual(caught.exception.number, number)
 
