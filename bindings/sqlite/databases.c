@@ -143,20 +143,28 @@ static const char *doubled_name(pdt_table *table) {
   return NULL;
 }
 
+/* Makes a table of a text: that of the declared columns, or of a file. */
+static int make(database *in, const declaration *declared, const char *bytes, size_t len, pdt_table **table) {
+  bool is_plain = false;
+  const char *names[PDT_MAX_KEY_COLUMNS];
+  int code = declared->path ? is_plain_file(declared, bytes, len, &is_plain) : PDT_OK;
+  if (code) return code;
+  pdt_plain plain = declaration_plain(declared, names);
+  if (is_plain) return pdt_table_create_plain(in->raw, declared->table, bytes, len, &plain, &declared->options, NULL, table);
+  return pdt_table_create_csv_declared(in->raw, declared->table, bytes, len, declared->formats, declared->width, &declared->options, NULL,
+                                       table);
+}
+
 pdt_table *databases_make(database *in, const declaration *declared, failure *why) {
   const char *from = declared->path ? declared->path : declared->place;
   char *bytes = NULL;
   size_t len = 0;
   int code = read_content(declared, &bytes, &len);
   if (code) return failure_of(why, SQLITE_ERROR, from, code);
-  pdt_fault fault = {{0, 0}, ""};
   pdt_table *table = NULL;
-  code = pdt_table_create_csv_declared(in->raw, declared->table, bytes, len, declared->formats, declared->width, &declared->options, &fault,
-                                       &table);
+  code = make(in, declared, bytes, len, &table);
   free(bytes);
-  if (code == PDT_BAD_TABLE)
-    *why = (failure){SQLITE_ERROR, sqlite3_mprintf("%s: record %llu, column %llu: %s", from, (unsigned long long)fault.place.row,
-                                                   (unsigned long long)fault.place.column, fault.cause)};
+  if (code == PDT_BAD_TABLE || code == HAS_KEY) failure_of(why, SQLITE_ERROR, from, code);
   else if (code == PDT_TYPE_MISMATCH)
     *why = (failure){SQLITE_ERROR, sqlite3_mprintf("a table's name has 1 to %d bytes of UTF-8, and no control characters", PDT_MAX_NAME)};
   else if (code) failure_of(why, code == PDT_IO || code == PDT_WRITES_FAILED ? SQLITE_IOERR : SQLITE_ERROR, declared->place, code);

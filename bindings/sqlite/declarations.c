@@ -252,7 +252,8 @@ static char *check_columns(const declaration *out) {
 
 /* What is said of a database and what is said of a table outside a database. */
 static char *check(const declaration *out) {
-  if (!out->folder && (out->table || out->sync >= 0 || out->width || out->keys))
+  bool is_file = out->path && !out->is_folder && !out->width; /* which may have a key declared, as a header without types has none */
+  if (!out->folder && (out->table || out->sync >= 0 || out->width || (out->keys && !is_file)))
     return sqlite3_mprintf("a table's name, sync and columns are those of a database, as pdt(database='DIR', table='NAME')");
   if (!out->folder && !out->path)
     return sqlite3_mprintf("name a file, as pdt('table.csv'), a folder, as pdt(checkpoint='DIR'), or a database, as "
@@ -261,7 +262,7 @@ static char *check(const declaration *out) {
   if (!out->table) return sqlite3_mprintf("name a table of the database, as pdt(database='DIR', table='NAME')");
   if (out->is_folder) return sqlite3_mprintf("a table is a checkpoint's or a database's");
   if (out->path && out->width) return sqlite3_mprintf("a table is made of columns or of a file");
-  return check_columns(out);
+  return is_file ? NULL : check_columns(out);
 }
 
 char *declaration_read(int words, const char *const *word, declaration *out) {
@@ -296,4 +297,9 @@ char *declaration_header(const declaration *declared) {
                         i < declared->keys ? ":key" : "");
   sqlite3_str_appendchar(text, 1, '\n');
   return sqlite3_str_finish(text);
+}
+
+pdt_plain declaration_plain(const declaration *declared, const char *room[PDT_MAX_KEY_COLUMNS]) {
+  for (size_t i = 0; i < declared->keys; i++) room[i] = declared->key[i];
+  return (pdt_plain){.size = sizeof(pdt_plain), .key = room, .key_count = declared->keys};
 }

@@ -57,7 +57,7 @@ static session *named(sqlite3_context *to, sqlite3_value *value) {
 
 static void answer(sqlite3_context *to, int code) {
   if (code == PDT_IO) refuse(to, sqlite3_mprintf("pdt: %s: %s", pdt_code_text(code), strerror(errno)));
-  else if (code) refuse(to, sqlite3_mprintf("pdt: %s", pdt_code_text(code)));
+  else if (code) refuse(to, sqlite3_mprintf("pdt: %s", pdt_errmsg(code)));
   if (code) sqlite3_result_error_code(to, code_of(code));
 }
 

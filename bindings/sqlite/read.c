@@ -331,7 +331,7 @@ static int put_number(cursor *c, sqlite3_context *to, size_t column, int64_t num
   }
   if (column < s->keys && m->kind == REALS) bounds_of(m, &least, &most);
   if (number >= least && number <= most && result_number(to, m, number)) return SQLITE_OK;
-  return say(c->base.pVtab, SQLITE_MISMATCH, "pdt: column %s has the number %lld, which is %s", pdt_column_name(s->table, column),
+  return say(c->base.pVtab, SQLITE_MISMATCH, "pdt: column \"%s\" has the number %lld, which is %s", pdt_column_name(s->table, column),
              (long long)number, m->kind == REALS ? "a NaN in the key" : "no date of the years 0000 to 9999");
 }
 

@@ -72,21 +72,39 @@ int read_file(const char *path, char **bytes, size_t *len) {
   return PDT_OK;
 }
 
+int is_plain_file(const declaration *declared, const char *bytes, size_t len, bool *is_plain) {
+  bool has_types = false;
+  int code = pdt_csv_has_types(bytes, len, &has_types);
+  *is_plain = !has_types;
+  return !code && has_types && declared->keys ? HAS_KEY : code;
+}
+
+static int open_text(const declaration *declared, const char *bytes, size_t len, pdt_table **table) {
+  bool is_plain;
+  const char *names[PDT_MAX_KEY_COLUMNS];
+  int code = is_plain_file(declared, bytes, len, &is_plain);
+  if (code) return code;
+  if (!is_plain) return pdt_open(bytes, len, &declared->options, table);
+  pdt_plain plain = declaration_plain(declared, names);
+  return pdt_open_plain(bytes, len, &plain, &declared->options, NULL, table);
+}
+
 static int open_table(const declaration *declared, pdt_table **table) {
   if (declared->is_folder) return pdt_recover(declared->path, &declared->options, table);
   char *bytes;
   size_t len;
   int code = read_file(declared->path, &bytes, &len);
   if (code) return code;
-  code = pdt_open(bytes, len, &declared->options, table);
+  code = open_text(declared, bytes, len, table);
   free(bytes);
   return code;
 }
 
 void *failure_of(failure *why, int code, const char *place, int library_code) {
-  const char *text = pdt_code_text(library_code);
+  const char *text = library_code == NOT_REGULAR ? NULL : pdt_errmsg(library_code);
   why->code = code;
   if (library_code == NOT_REGULAR) why->text = sqlite3_mprintf("%s is no regular file", place);
+  else if (library_code == HAS_KEY) why->text = sqlite3_mprintf("%s: its header names the types and the key", place);
   else if (library_code == PDT_IO) why->text = sqlite3_mprintf("%s: %s: %s", place, text, strerror(errno));
   else why->text = sqlite3_mprintf("%s: %s", place, text);
   return NULL;
@@ -129,8 +147,20 @@ static shared *add(const char *path, const declaration *declared, failure *why) 
   return failure_of(why, SQLITE_ERROR, declared->place, PDT_NOMEM);
 }
 
+/* Whether a table has the key that is declared, if any is. */
+static bool same_key(const pdt_table *table, const declaration *declared) {
+  if (declared->keys && declared->keys != pdt_key_columns(table)) return false;
+  for (size_t i = 0; i < declared->keys; i++)
+    if (strcmp(pdt_column_name(table, i), declared->key[i])) return false;
+  return true;
+}
+
 static shared *join_alone(const char *path, const declaration *declared, failure *why) {
   shared *entry = find(NULL, path, declared->is_folder);
+  if (entry && !same_key(entry->table, declared)) {
+    *why = (failure){SQLITE_ERROR, sqlite3_mprintf("%s is open with another key", declared->place)};
+    return NULL;
+  }
   if (entry && !same_options(&entry->options, &declared->options)) {
     why->code = SQLITE_ERROR;
     why->text = sqlite3_mprintf("%s is open with another recent, limit or conflicts", declared->place);

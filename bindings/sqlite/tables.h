@@ -27,6 +27,8 @@ char *declaration_read(int words, const char *const *word, declaration *out);
 void declaration_free(declaration *declared);
 /* The columns as the record of CSV that names them, sqlite3_malloc's; null where memory is refused. */
 char *declaration_header(const declaration *declared);
+/* The key of a file whose header names no types. The names are the declaration's, and their addresses go into room. */
+pdt_plain declaration_plain(const declaration *declared, const char *room[PDT_MAX_KEY_COLUMNS]);
 
 /* Why something can't be had: one of SQLite's codes, and a sentence, which is sqlite3_malloc's. */
 typedef struct failure {
@@ -53,13 +55,16 @@ database *tables_database(const shared *entry);
 /* Drops a table of the database in a folder, which no connection of the process has. False, and a failure, where it can't. */
 bool tables_drop(const char *folder, const char *table, failure *why);
 
-enum { NOT_REGULAR = -1 }; /* beside the library's codes: a path is that of a folder, a device or a pipe */
+/* beside the library's codes: a path is that of a folder, a device or a pipe; a key is declared of a file whose header names one */
+enum { NOT_REGULAR = -1, HAS_KEY = -2 };
 
 /* A failure with one of the library's codes for a place, whose cause errno has, where it is a file's. Null. */
 void *failure_of(failure *why, int code, const char *place, int library_code);
 /* Reads a regular file whole into memory, which is the caller's to free. One of the library's codes, or NOT_REGULAR: a device may
    have no end, and a pipe no writer. */
 int read_file(const char *path, char **bytes, size_t *len);
+/* Whether the header of a file's text names no types, so that they are found. One of the library's codes, or HAS_KEY. */
+int is_plain_file(const declaration *declared, const char *bytes, size_t len, bool *is_plain);
 
 /* ---- numbers.c */
 

@@ -1,6 +1,8 @@
 /* Writes. */
 #include "vtab.h"
 
+#include "../../libpdt/src/quoted.h"
+
 #include <string.h>
 
 SQLITE_EXTENSION_INIT3
@@ -11,24 +13,112 @@ static int constraint_or(const session *s, int code) {
   return sqlite3_vtab_on_conflict(s->owner->db) == SQLITE_IGNORE ? code : SQLITE_CONSTRAINT;
 }
 
+/* The key of the row in s->row, with the values of its columns as SQL has them. */
+static void put_key(const session *s, pdti_text *to) {
+  const char *texts = s->row_texts;
+  char word[STAMP_ROOM + 24];
+  for (size_t column = 0; column < s->keys; column++) {
+    const meaning *m = &s->means[column];
+    const char *name = pdt_column_name(s->table, column);
+    int type = type_of(s, column);
+    size_t len = 0;
+    pdti_put_words(to, column ? ", " : "");
+    pdti_put_name(to, name, strlen(name));
+    pdti_put_words(to, "=");
+    if (type == PDT_TEXT) {
+      pdti_put_text(to, texts, (size_t)s->row[column], false);
+      texts += s->row[column];
+    } else if (type == PDT_INT && is_shown_as_text(m) && stamp_of_number(m, s->row[column], word, &len)) {
+      pdti_put(to, word, len);
+    } else {
+      if (type == PDT_BOOL) sqlite3_snprintf(sizeof word, word, "%s", s->row[column] ? "true" : "false");
+      else if (m->kind == REALS) sqlite3_snprintf(sizeof word, word, "%!.15g", real_of_number(s->row[column]));
+      else sqlite3_snprintf(sizeof word, word, "%lld", (long long)s->row[column]);
+      pdti_put_words(to, word);
+    }
+  }
+}
+
+/* A row of the key is there: the library's sentence, or where a number of the key stands for something else, one with that. */
+static int refuse_key(sqlite3_vtab *base) {
+  const session *s = session_of(base);
+  char room[340];
+  pdti_text key = {room, 0, sizeof room - 1, false};
+  bool is_plain = true;
+  for (size_t column = 0; column < s->keys; column++) is_plain &= s->means[column].kind == NUMBERS;
+  if (is_plain) return say(base, SQLITE_CONSTRAINT, "pdt: %s", pdt_errmsg(PDT_DUPLICATE));
+  put_key(s, &key);
+  room[key.len] = 0;
+  return say(base, SQLITE_CONSTRAINT, "pdt: a row with the key %s%s exists", room, key.is_full ? ".." : "");
+}
+
 /* At SQLITE_FULL SQLite would roll the whole transaction back. */
 static int refuse(sqlite3_vtab *base, int code) {
-  if (code != PDT_DUPLICATE && code != PDT_FULL) return fail(base, code);
-  int is = code == PDT_DUPLICATE ? SQLITE_CONSTRAINT : constraint_or(session_of(base), SQLITE_ERROR);
-  return say(base, is, "pdt: %s", pdt_code_text(code));
+  if (code == PDT_DUPLICATE) return refuse_key(base);
+  return code == PDT_FULL ? say(base, constraint_or(session_of(base), SQLITE_ERROR), "pdt: %s", pdt_errmsg(code)) : fail(base, code);
+}
+
+/* A value as a sentence shows it. */
+static void put_value(pdti_text *to, sqlite3_value *value) {
+  enum { BLOB_SHOWN = 16 };
+  char word[48];
+  const uint8_t *bytes;
+  size_t len;
+  switch (sqlite3_value_type(value)) {
+    case SQLITE_NULL: pdti_put_words(to, "NULL"); return;
+    case SQLITE_INTEGER: sqlite3_snprintf(sizeof word, word, "%lld", (long long)sqlite3_value_int64(value)); break;
+    case SQLITE_FLOAT: sqlite3_snprintf(sizeof word, word, "%!.15g", sqlite3_value_double(value)); break;
+    case SQLITE_TEXT:
+      bytes = sqlite3_value_text(value); /* null where memory is refused */
+      pdti_put_text(to, bytes ? (const char *)bytes : "", bytes ? (size_t)sqlite3_value_bytes(value) : 0, false);
+      return;
+    default:
+      bytes = sqlite3_value_blob(value);
+      len = (size_t)sqlite3_value_bytes(value);
+      pdti_put_words(to, "x'");
+      for (size_t i = 0; bytes && i < len && i < BLOB_SHOWN; i++) {
+        sqlite3_snprintf(sizeof word, word, "%02x", bytes[i]);
+        pdti_put_words(to, word);
+      }
+      pdti_put_words(to, len > BLOB_SHOWN ? "'.." : "'");
+      return;
+  }
+  pdti_put_words(to, word);
+}
+
+/* What is wrong with a value that a column doesn't take, behind the column's name. */
+static void put_mismatch(const session *s, size_t column, sqlite3_value *value, pdti_text *to) {
+  static const char *const wanted[] = {"", "", "a text", "a bool: 0 or 1 is wanted"};
+  static const char *const kinds[] = {"an int", "a number", "a date as 2024-12-31", "a timestamp as 2024-12-31 23:59:59"};
+  const meaning *m = &s->means[column];
+  int type = type_of(s, column), found = sqlite3_value_type(value), len = sqlite3_value_bytes(value);
+  if (type == PDT_TEXT && found != SQLITE_NULL && found != SQLITE_BLOB && len <= PDT_MAX_TEXT) {
+    pdti_put_words(to, "the text is not UTF-8");
+    return;
+  }
+  if (type == PDT_TEXT && found != SQLITE_NULL && found != SQLITE_BLOB) {
+    pdti_put_words(to, "the text has ");
+    pdti_put_number(to, (uint64_t)len, true);
+    pdti_put_words(to, " bytes, and 4,096 are the most");
+    return;
+  }
+  put_value(to, value);
+  pdti_put_words(to, " is not ");
+  pdti_put_words(to, type == PDT_INT ? kinds[m->kind] : wanted[type]);
+  pdti_put_words(to, m->has_null ? " or NULL" : "");
 }
 
 static int mismatch(sqlite3_vtab *base, size_t column, sqlite3_value *value) {
-  static const char *const wanted[] = {"", "a whole number", "a text in UTF-8 of at most 4096 bytes", "0 or 1"};
-  static const char *const kinds[] = {"a whole number", "a number", "a date as 2024-12-31", "a timestamp as 2024-12-31 23:59:59"};
-  static const char *const found[] = {"", "an integer", "a real", "a text", "a blob", "NULL"};
   const session *s = session_of(base);
-  const meaning *m = &s->means[column];
-  int type = sqlite3_value_type(value);
-  const char *what = is_shown_as_text(m) && type == SQLITE_TEXT ? "another text" : found[type];
-  int code = type == SQLITE_NULL ? SQLITE_CONSTRAINT : constraint_or(s, SQLITE_MISMATCH);
-  return say(base, code, "pdt: column %s takes %s%s, not %s", pdt_column_name(s->table, column),
-             type_of(s, column) == PDT_INT ? kinds[m->kind] : wanted[type_of(s, column)], m->has_null ? " or NULL" : "", what);
+  const char *name = pdt_column_name(s->table, column);
+  int code = sqlite3_value_type(value) == SQLITE_NULL ? SQLITE_CONSTRAINT : constraint_or(s, SQLITE_MISMATCH);
+  char room[800];
+  pdti_text text = {room, 0, sizeof room - 1, false};
+  pdti_put_text(&text, name, strlen(name), false);
+  pdti_put_words(&text, ": ");
+  put_mismatch(s, column, value, &text);
+  room[text.len] = 0;
+  return say(base, code, "pdt: column %s", room);
 }
 
 /* Puts the cell of a value into a row, its text after the others. A number in a text column is its text, by its

@@ -124,7 +124,7 @@ def columns_are_declared(room):
     assert found == [('a "b', "INT", 1, 1), ("c d", "TEXT", 1, 0), ("e", "BOOLEAN", 1, 0), ("limit", "INTEGER", 1, 0),
                      ("table", "TEXT", 1, 0)], found  # fmt: skip
     done(c, "INSERT INTO t VALUES (1, 'x', 1, 2, 'y')")
-    refused(c, "INSERT INTO t VALUES (2, 'x', 7, 2, 'y')", CONSTRAINT, "pdt: column e takes 0 or 1, not an integer")
+    refused(c, "INSERT INTO t VALUES (2, 'x', 7, 2, 'y')", CONSTRAINT, 'pdt: column "e": 7 is not a bool: 0 or 1 is wanted')
     done(c, "DROP TABLE t", f"CREATE VIRTUAL TABLE t USING pdt(database='{folder}', table='it''s')")
     shows(c, "SELECT * FROM t", (1, "x", 1, 2, "y"))
     key = ", b TEXT, a INTEGER, c BOOLEAN, d INTEGER, v TEXT, PRIMARY KEY(b,a , c, d)"
@@ -203,13 +203,13 @@ def declarations_are_refused(room):
         (f"database='{folder}/shop', table='x'",
          f"{folder}/shop has no table x, and no columns are declared to make it with"),
         (f"database='{folder}/shop', table='Items', {columns}, recent=65537",
-         f"Items in {folder}/shop: a limit is outside its range"),
+         f"Items in {folder}/shop: recent is 65537: 1 to 65,536 is wanted"),
         (f"database='{folder}/shop', table='items', {columns}", f"items in {folder}/shop has other columns"),
         (f"database='{folder}/shop', table='items'", f"the connection has a table of items in {folder}/shop"),
         (f"database='{folder}/shop', table='x', sync='off', {columns}", f"{folder}/shop is open with another sync"),
         (f"database='{folder}/shop', table='', {columns}",
          "a table's name has 1 to 64 bytes of UTF-8, and no control characters"),
-        (f"'{bad}', database='{folder}/shop', table='x'", f"{bad}: record 3, column 0: "),
+        (f"'{bad}', database='{folder}/shop', table='x'", f"{bad}: line 3, column \"id\": \"x\" is not an int: a whole number of 64 bits is wanted"),
         (f"'/dev/zero', database='{folder}/shop', table='x'", "/dev/zero is no regular file"),
         (f"'{wide}', database='{folder}/shop', table='x'", f"{wide}: duplicate column name: ID"),
         (f"'{folder}/none.csv', database='{folder}/shop', table='x'",
@@ -420,7 +420,7 @@ def savepoints_are_of_all_tables(room):
     done(c, "INSERT INTO plain VALUES (1), (2)")
     shows(c, SUMS, (17, 12))
     done(c, "BEGIN", "INSERT INTO plain VALUES (3)")
-    twice = "pdt: there is a row of the key"
+    twice = 'pdt: a row with the key item=5, day="x" exists'
     done(c, "INSERT INTO sales VALUES (5, 'x', 1)")
     refused(c, "INSERT INTO plain VALUES (4), (5)", CONSTRAINT, twice)
     shows(c, SUMS, (18, 14))

@@ -62,33 +62,46 @@ def julian(connection, text):
 def wrong_values_are_refused(room):
     c = room.connect(tables=False)
     done(c, MAKE.format("t", room.folder / "shop", ALL), "INSERT INTO t VALUES (1, '2024-02-29', NULL, NULL, '')")
-    day, at = "pdt: column day takes a date as 2024-12-31, not ", "pdt: column at takes a timestamp as 2024-12-31 23:59:59 or NULL, "
-    at += "not "
-    for value, found in [("NULL", "NULL"), ("20000", "an integer"), ("1.5", "a real"), ("x'61'", "a blob")]:
-        refused(c, f"UPDATE t SET day = {value}", CONSTRAINT, day + found)
+    day, at = 'pdt: column "day": {} is not a date as 2024-12-31', 'pdt: column "at": {} is not a timestamp as 2024-12-31 23:59:59 or NULL'
+    for value in ["NULL", "20000", "1.5", "x'61'"]:
+        refused(c, f"UPDATE t SET day = {value}", CONSTRAINT, day.format(value))
         if value != "NULL":
-            refused(c, f"UPDATE t SET at = {value}", CONSTRAINT, at + found)
+            refused(c, f"UPDATE t SET at = {value}", CONSTRAINT, at.format(value))
     for text in ["", "2023-02-29", "1900-02-29", "2024-13-01", "2024-00-01", "2024-1-1", "2024-04-31", "2024-01-00", "24-01-01",
                  "-2024-01-01", "12024-01-01", "2024-01-01 ", "2024-01-01 00:00:00", "2024/01/01"]:  # fmt: skip
-        refused(c, f"UPDATE t SET day = '{text}'", CONSTRAINT, day + "another text")
+        refused(c, f"UPDATE t SET day = '{text}'", CONSTRAINT, day.format(f'"{text}"'))
     for text in ["2023-02-29", "2024-01-01 ", "2024-01-01 1:00", "2024-01-01 24:00", "2024-01-01 00:60", "2024-01-01 00:00:60",
                  "2024-01-01 00:00:00.", "2024-01-01 00:00:00.1234567", "2024-01-01 00:00.5", "2024-01-01 00:00:00Z",
                  "2024-01-01_00:00"]:  # fmt: skip
-        refused(c, f"UPDATE t SET at = '{text}'", CONSTRAINT, at + "another text")
-    refused(c, "UPDATE t SET day = '2024-01-01' || char(0) || 'x'", CONSTRAINT, day + "another text")
-    for value, found in [("NULL", "NULL"), ("9e999 - 9e999", "NULL"), ("'x'", "a text"), ("x'61'", "a blob")]:
+        refused(c, f"UPDATE t SET at = '{text}'", CONSTRAINT, at.format(f'"{text}"'))
+    refused(c, "UPDATE t SET day = '2024-01-01' || char(0) || 'x'", CONSTRAINT, day.format('"2024-01-01\\x00x"'))
+    for value, found in [("NULL", "NULL"), ("9e999 - 9e999", "NULL"), ("'x'", '"x"'), ("x'61'", "x'61'")]:
         sql = f"INSERT INTO t VALUES ({value}, '2024-02-29', NULL, NULL, '')"
-        refused(c, sql, CONSTRAINT, f"pdt: column price takes a number, not {found}")
-    for value, found in [("-9223372036854775808", "an integer"), ("1.5", "a real"), ("'x'", "a text")]:
-        refused(c, f"UPDATE t SET n = {value}", CONSTRAINT, f"pdt: column n takes a whole number or NULL, not {found}")
-    refused(c, "INSERT INTO t VALUES ('1', '2024-02-28', NULL, NULL, '')", CONSTRAINT, "pdt: there is a row of the key")
+        refused(c, sql, CONSTRAINT, f'pdt: column "price": {found} is not a number')
+    for value, found in [("-9223372036854775808", "-9223372036854775808"), ("1.5", "1.5"), ("'x'", '"x"')]:
+        refused(c, f"UPDATE t SET n = {value}", CONSTRAINT, f'pdt: column "n": {found} is not an int or NULL')
+    twice = "pdt: a row with the key price=1.0 exists"
+    refused(c, "INSERT INTO t VALUES ('1', '2024-02-28', NULL, NULL, '')", CONSTRAINT, twice)
     shows(c, "SELECT * FROM t", (1.0, "2024-02-29", None, None, ""))
+
+
+def a_key_that_is_there_has_its_values(room):
+    c = room.connect(tables=False)
+    words = ', day DATE, at TIMESTAMP, price REAL, "on" BOOLEAN, n INTEGER, PRIMARY KEY (day, at, price, "on")'
+    done(c, MAKE.format("t", room.folder / "shop", words))
+    row = "'2024-02-29', '2024-02-29 12:30', 0.5, 1"
+    done(c, f"INSERT INTO t VALUES ({row}, 1)")
+    twice = "pdt: a row with the key day=2024-02-29, at=2024-02-29 12:30:00, price=0.5, on=true exists"
+    refused(c, f"INSERT INTO t VALUES ({row}, 2)", CONSTRAINT, twice)
+    done(c, f"INSERT INTO t VALUES ({row.replace('29', '28')}, 2)")
+    refused(c, "UPDATE t SET day = '2024-02-29', at = '2024-02-29 12:30' WHERE n = 2", CONSTRAINT, twice)
+    refused(c, f"INSERT INTO t VALUES ({row.replace('0.5', 'NULL')}, 2)", CONSTRAINT, 'pdt: column "price": NULL is not a number')
 
 
 def a_zero_has_no_sign(room):
     c = room.connect(tables=False)
     done(c, MAKE.format("t", room.folder / "shop", ", price REAL PRIMARY KEY, n REAL"), "INSERT INTO t VALUES (-0.0, -0.0)")
-    refused(c, "INSERT INTO t VALUES (0, 0)", CONSTRAINT, "pdt: there is a row of the key")
+    refused(c, "INSERT INTO t VALUES (0, 0)", CONSTRAINT, "pdt: a row with the key price=0.0 exists")
     shows(c, "SELECT printf('%g', price), printf('%g', n) FROM t WHERE price = 0", ("0", "0"))
     done(c, "UPDATE t SET n = -0.0 WHERE price = -0.0", "DELETE FROM t WHERE price >= 0 AND price <= -0.0")
     shows(c, "SELECT * FROM t")
@@ -216,7 +229,7 @@ def python_writes_and_sql_reads(room):
     c = room.connect(tables=False)
     done(c, MAKE.format("t", folder, ""), "DELETE FROM t WHERE k = 0")
     shows(c, "SELECT k FROM t WHERE k >= 0", (0.1,), (2.5,))
-    refused(c, "SELECT k FROM t", MISMATCH, f"pdt: column k has the number {0x7FF8 << 48}, which is a NaN in the key")
+    refused(c, "SELECT k FROM t", MISMATCH, f'pdt: column "k" has the number {0x7FF8 << 48}, which is a NaN in the key')
 
 
 def zeros_of_both_signs(room):
@@ -276,7 +289,7 @@ def what_has_no_value_is_told(room):
     for name in ["t", "seconds", "millis", "nanos", "real", "double"]:
         done(c, f"CREATE VIRTUAL TABLE {name} USING pdt(database='{folder}', table='{name}')")
     wrong = "has the number 2932897, which is no date of the years 0000 to 9999"
-    refused(c, "SELECT k FROM t", MISMATCH, f"pdt: column k {wrong}")
+    refused(c, "SELECT k FROM t", MISMATCH, f'pdt: column "k" {wrong}')
     shows(c, "SELECT k FROM t WHERE k > '1970-01-02'", ("1970-01-03",), ("9999-12-31",))
     shows(c, "SELECT count(*) FROM t", (5,))
     shows(c, "SELECT v FROM seconds WHERE k < 2", ("1970-01-01 00:00:00",), ("1970-01-01 00:00:01",))
@@ -287,12 +300,19 @@ def what_has_no_value_is_told(room):
     shows(c, "SELECT k, v FROM double WHERE v IS NULL", (7, None))
     shows(c, "SELECT k FROM double WHERE v IS NOT NULL", (0,), (1,), (2,), (2932896,))
     shows(c, "SELECT count(*), count(v) FROM double", (5, 4))
-    takes = "takes a timestamp as 2024-12-31 23:59:59, not another text"
-    refused(c, "UPDATE seconds SET v = '2024-01-01 00:00:00.5'", CONSTRAINT, f"pdt: column v {takes}")
-    refused(c, "UPDATE millis SET v = '2024-01-01 00:00:00.0005'", CONSTRAINT, f"pdt: column v {takes}")
+    wrong = 'pdt: column "v": "{}" is not a timestamp as 2024-12-31 23:59:59'
+    for table, text in [("seconds", "2024-01-01 00:00:00.5"), ("millis", "2024-01-01 00:00:00.0005")]:
+        refused(c, f"UPDATE {table} SET v = '{text}'", CONSTRAINT, wrong.format(text))
 
 
-SESSIONS = [values_are_shown, wrong_values_are_refused, a_zero_has_no_sign, declarations, what_was_made_lasts]
+SESSIONS = [
+    values_are_shown,
+    wrong_values_are_refused,
+    a_key_that_is_there_has_its_values,
+    a_zero_has_no_sign,
+    declarations,
+    what_was_made_lasts,
+]
 SESSIONS += [a_table_is_made_as_declared, plans]
 SESSIONS += [bounds_between_doubles, lists_in_order]
 SESSIONS += [python_writes_and_sql_reads, zeros_of_both_signs, what_has_no_value_is_told]

@@ -178,7 +178,7 @@ def the_last_rowid_is_the_key_where_that_is_one_number(room):
     ]:
         done(c, sql)
         shows(c, last, (rowid,))
-    refused(c, "INSERT INTO numbers VALUES (8, 1), (-2, 9)", CONSTRAINT, "pdt: there is a row of the key")
+    refused(c, "INSERT INTO numbers VALUES (8, 1), (-2, 9)", CONSTRAINT, "pdt: a row with the key k=-2 exists")
     # what a trigger inserts is forgotten at its end, as of any table
     done(c, "CREATE TRIGGER on_plain AFTER INSERT ON plain BEGIN INSERT INTO numbers VALUES (new.id + 100, 0); "
             "INSERT INTO lines VALUES (last_insert_rowid()); END", "INSERT INTO plain VALUES (9, '')")  # fmt: skip
