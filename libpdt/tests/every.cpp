@@ -105,6 +105,7 @@ static const char *const names[] = {
 };
 int main(int argc, char **argv) {
   if (argc < 4) return 2;
+  have_sentences();
   room = argv[1];
   long wanted = atol(argv[2]), steps = argc > 4 ? atol(argv[4]) : 300;
   uint64_t first = strtoull(argv[3], nullptr, 10);

@@ -99,6 +99,7 @@ template <class F> static auto with_refusals(const char *name, F call) -> declty
 #define D(name, ...) (drew(#name), with_refusals(#name, [&] { return name(__VA_ARGS__); }))
 #else
 static const bool refuses = false;
+static void have_sentences() {}
 #define D(name, ...) (drew(#name), name(__VA_ARGS__))
 #endif
 
