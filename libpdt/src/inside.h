@@ -461,8 +461,8 @@ int pdti_refuse_set(const pdt_table *table, const pdti_set_cell *set);
 int pdti_refuse_key(int code, const pdt_table *table, const int64_t *key, const void *texts, size_t bytes);
 /* A text that is too long, of a cell. */
 int pdti_refuse_length(const char *where, uint64_t bytes);
-/* The names, the types and the key of columns; a value at a place; a value in memory, or PDT_OK where it is one; a row whose key isn't above
-   that of the row before it; and one whose key an earlier row has. */
+/* Keeps the sentence of a fault: in the names, the types or the key of columns; of a value at a place; of a value in memory, or PDT_OK if
+   it has its type; of a row whose key isn't above that of the row before it; and of a row whose key an earlier row has. */
 int pdti_refuse_headings(const pdt_column *columns, size_t count, size_t key);
 int pdti_refuse_value(const pdt_column *columns, const pdt_place *place);
 int pdti_find_value(const pdt_column *column, uint64_t row, const char *where);

@@ -1,4 +1,4 @@
-/* The sentences of pdt_errmsg: each one literally, in its thread alone, and never that of an earlier call. The argument is an empty folder. */
+/* The sentences of pdt_errmsg: each one literally, in its own thread, and never one of an earlier call. The argument is an empty folder. */
 #define _POSIX_C_SOURCE 200809L
 #include "arrow_source.h"
 

@@ -1,5 +1,5 @@
-/* CSV texts whose header names columns and no types: the types that are found, the key, each fault with its place, and a type that changes in
-   the record of a million. The argument is an empty folder. */
+/* CSV texts whose header names columns and no types: the types that are found, the key, each fault with its place, and a type that changes
+   at record 1,000,000. The argument is an empty folder. */
 #define _POSIX_C_SOURCE 200809L
 #include <pdt.h>
 #include <stdint.h>

@@ -59,7 +59,7 @@ class Plain(unittest.TestCase):
             ("id,id\n1,2\n", None, 1, 1),
             ("id,\n1,2\n", None, 1, 1),
             ("id,a\n1\n", None, 2, 0),
-            (PEOPLE, ["mail", "nobody"], 1, 1),
+            (PEOPLE, ["mail", "phone"], 1, 1),
             (PEOPLE, ["mail", "mail"], 1, 0),
             (PEOPLE, ["name", "age", "mail", "new", "name"], 1, 0),
             (",".join(f"c{i}" for i in range(33)), None, 1, 32),

@@ -209,7 +209,10 @@ def declarations_are_refused(room):
         (f"database='{folder}/shop', table='x', sync='off', {columns}", f"{folder}/shop is open with another sync"),
         (f"database='{folder}/shop', table='', {columns}",
          "a table's name has 1 to 64 bytes of UTF-8, and no control characters"),
-        (f"'{bad}', database='{folder}/shop', table='x'", f"{bad}: line 3, column \"id\": \"x\" is not an int: a whole number of 64 bits is wanted"),
+        (
+            f"'{bad}', database='{folder}/shop', table='x'",
+            f'{bad}: line 3, column "id": "x" is not an int: a whole number of 64 bits is wanted',
+        ),
         (f"'/dev/zero', database='{folder}/shop', table='x'", "/dev/zero is no regular file"),
         (f"'{wide}', database='{folder}/shop', table='x'", f"{wide}: duplicate column name: ID"),
         (f"'{folder}/none.csv', database='{folder}/shop', table='x'",

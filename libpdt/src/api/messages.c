@@ -20,8 +20,8 @@ typedef struct {
   char sentence[SENTENCE];
 } kept_sentence;
 
-/* A thread's block, or null: it has been refused nothing, or the block was refused, and then it keeps no sentence. The address is in the part
-   of a thread's memory that the loader sets up with the thread: another part would be allocated at its first use, and glibc ends a
+/* A thread's block, or null: no call of it was refused yet, or memory for the block ran out, and it keeps no sentence. The address is in
+   the part of a thread's memory that the loader sets up with the thread: another part would be allocated at its first use, and glibc ends a
    process that has no memory for that. */
 static _Thread_local kept_sentence *kept __attribute__((tls_model("initial-exec")));
 

@@ -100,7 +100,7 @@ static pdt_fault fault_of(const pdti_text_fault *found) {
   return (pdt_fault){{found->row, found->column}, is_known ? text_faults[found->cause] : pdt_code_text(PDT_BAD_TABLE)};
 }
 
-/* What an opening over a text tells of its first fault: the place, and a sentence of so many bytes, which has none where memory was refused. */
+/* The first fault of a text that is opened: its place, and its sentence, of `said` bytes; 0 if memory ran out. */
 typedef struct {
   pdti_text_fault at;
   size_t said;

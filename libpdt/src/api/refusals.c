@@ -1,5 +1,5 @@
-/* Which of the cells, columns and options that a call was given the exports have refused. They decide, and answer a code; what is said here of
-   it is found afterwards, in the order in which they test. Where nothing is found the code keeps its own sentence. */
+/* Finds the cell, column or option that the exports refused. They decide, and return a code; this file looks for the cause afterwards, in
+   the order of their tests. If it finds none, the code keeps its own sentence. */
 #include "inside.h"
 
 #include <inttypes.h>
