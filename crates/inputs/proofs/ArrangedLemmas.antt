@@ -1,5 +1,6 @@
 -- Columns that are moved before others, the rows that they show, and their types.
-use Rattle.std.proofs.Common.{◌≡◌, ◌∙◌, ◌+◌, ℕ, zero, suc, Bool, true, false, ◌==◌, List, [], ◌∷◌, ◌++◌, length, take, drop, map, Option, Some, None, Result, Ok, Err, refl, sym, ap, subst, arith, inl, inr, nat_lt, eq-eqb}
+use Rattle.std.proofs.Common.{◌≡◌, ◌∙◌, ◌+◌, ℕ, zero, suc, Bool, true, false, ◌==◌, nat_lt, List, [], ◌∷◌, ◌++◌, length, take, drop, map}
+use Rattle.std.proofs.Common.{Option, Some, None, Result, Ok, Err, refl, sym, ap, subst, arith, inl, inr, eq-eqb}
 use Rattle.std.specs.Prelude.{position}
 use Rattle.std.specs.Str.{is_utf8}
 use Rattle.std.specs.List.{All, range_with_len}
@@ -17,7 +18,9 @@ use Rattle.blocks.specs.Column.{Column}
 use Rattle.stable.specs.Rows.{cell_at, row_at}
 use Rattle.inputs.specs.Filling.{row_in, rows_in}
 use Rattle.inputs.specs.Header.{as_schema, columns_named, named, is_colon, unless_refused}
-use Rattle.inputs.specs.Plain.{Moved, PlainColumns, as_found, rekeyed, found_with, found_under, plain_columns, types_shown, arranged, first_in_key, fronted, is_named, moved_next, moved_row, moved_to, plain_heading, plain_headings, plain_named, with_key}
+use Rattle.inputs.specs.Plain.{Moved, PlainColumns, as_found, rekeyed, found_with, found_under, plain_columns, types_shown, arranged}
+use Rattle.inputs.specs.Plain.{first_in_key, fronted, is_named, moved_next, moved_row, moved_to, plain_heading, plain_headings, plain_named}
+use Rattle.inputs.specs.Plain.{with_key}
 use Rattle.inputs.specs.Reading.{Fields}
 use Rattle.inputs.specs.declared.header.Heading.{Heading}
 use Rattle.inputs.specs.declared.fault.TableFault.{TableFault}
@@ -31,8 +34,12 @@ use Rattle.inputs.proofs.PlainLemmas.{length-shown}
 module _ {A B : Type 0} where
   fronted-map : (f : A → B) (place : ℕ) (xs : List A) → map f (fronted place xs) ≡ fronted place (map f xs)
   fronted-map f place xs =
-      map-append f (take 1 (drop place xs)) (take place xs ++ drop (suc place) xs)
-      ∙ rw (map-append f (take place xs) (drop (suc place) xs), sym (take-map f 1 (drop place xs)), sym (drop-map f place xs), sym (take-map f place xs), sym (drop-map f (suc place) xs)) refl
+      let rest = map-append f (take place xs) (drop (suc place) xs) in
+      let first = sym (take-map f 1 (drop place xs)) in
+      let at = sym (drop-map f place xs) in
+      let before = sym (take-map f place xs) in
+      let after = sym (drop-map f (suc place) xs) in
+      map-append f (take 1 (drop place xs)) (take place xs ++ drop (suc place) xs) ∙ rw (rest, first, at, before, after) refl
 
   pub arranged-map : (f : A → B) (places : List ℕ) (xs : List A) → map f (arranged places xs) ≡ arranged places (map f xs)
   arranged-map f [] xs = refl
@@ -40,7 +47,8 @@ module _ {A B : Type 0} where
       arranged-map f places (fronted place xs) ∙ ap (λ (ys : List B). arranged places ys) (fronted-map f place xs)
 
 module _ {A : Type 0} where
-  pub arranged-more : (places : List ℕ) (place : ℕ) (xs : List A) → arranged (places ++ place ∷ []) xs ≡ fronted place (arranged places xs)
+  pub arranged-more : (places : List ℕ) (place : ℕ) (xs : List A)
+      → arranged (places ++ place ∷ []) xs ≡ fronted place (arranged places xs)
   arranged-more [] place xs = refl
   arranged-more (first ∷ places) place xs = arranged-more places place (fronted first xs)
 
@@ -73,7 +81,8 @@ module _ {A B : Type 0} where
 
 -- ---- rows
 
-pub arranged-row : (moved : List ℕ) (place : ℕ) (columns : List Column) → row_at (arranged moved columns) place ≡ arranged moved (row_at columns place)
+pub arranged-row : (moved : List ℕ) (place : ℕ) (columns : List Column)
+    → row_at (arranged moved columns) place ≡ arranged moved (row_at columns place)
 arranged-row moved place columns = arranged-map (cell_at place) moved columns
 
 pub arranged-rows : (moved : List ℕ) (count : ℕ) (columns : List Column)
@@ -94,7 +103,8 @@ pub as_schema-types : (headings : List Heading) (schema : Columns) → as_schema
     → schema.types ≡ map (λ (it : Heading). it.column) headings
 as_schema-types headings schema e = unless_refused-types (columns_named headings) schema (schema_fault (columns_named headings)) e
 
-named-column : (name : List ℕ) (type : ColumnType) (is_key : Bool) (heading : Heading) → named name (Some (type, is_key)) ≡ Some heading
+named-column : (name : List ℕ) (type : ColumnType) (is_key : Bool) (heading : Heading)
+    → named name (Some (type, is_key)) ≡ Some heading
     → heading.column ≡ type
 named-column name type is_key heading e = elim (cases_Bool (length name == 0)) [
   | inl none ↦ cc (rw none at e)
@@ -123,7 +133,9 @@ plain_headings-types at (name ∷ names) (type ∷ types) headings l e =
     let parts = then_cons-parts (plain_heading at name type) (plain_headings (suc at) names types) headings e in
     let one = plain_named-column (position is_colon name) name type (at == 0) parts.0 (or_else-parts _ _ parts.0 parts.2) in
     let rest = plain_headings-types (suc at) names types parts.1 (omega (arith, l)) parts.3 in
-    rw parts.4 (ap (λ (it : ColumnType). it ∷ map (λ (it : Heading). it.column) parts.1) one ∙ ap (λ (its : List ColumnType). type ∷ its) rest)
+    rw parts.4
+    (ap (λ (it : ColumnType). it ∷ map (λ (it : Heading). it.column) parts.1) one
+    ∙ ap (λ (its : List ColumnType). type ∷ its) rest)
 
 first_in_key-types : (is_key : Bool) (headings : List Heading)
     → map (λ (it : Heading). it.column) (first_in_key is_key headings) ≡ map (λ (it : Heading). it.column) headings
@@ -155,11 +167,13 @@ moved_next-types at name headings (Err fault) moved e h = cc e
 moved_next-types at name headings (Ok so_far) moved e h =
     moved_to-types at headings so_far moved (position (is_named name) so_far.headings) e (h so_far refl)
 
-pub with_key-types : (at : ℕ) (names : List (List ℕ)) (headings : List Heading) (moved : Moved) → with_key at names headings ≡ Ok moved
+pub with_key-types : (at : ℕ) (names : List (List ℕ)) (headings : List Heading) (moved : Moved)
+    → with_key at names headings ≡ Ok moved
     → map (λ (it : Heading). it.column) moved.headings ≡ arranged moved.places (map (λ (it : Heading). it.column) headings)
 with_key-types at [] headings moved e =
     let same : ◌≡◌ {A = Moved} (record { places = []; headings = headings }) moved = cc e in
-    subst (λ (it : Moved). map (λ (it : Heading). it.column) it.headings ≡ arranged it.places (map (λ (it : Heading). it.column) headings)) same refl
+    let types = map (λ (it : Heading). it.column) headings in
+    subst (λ (it : Moved). map (λ (it : Heading). it.column) it.headings ≡ arranged it.places types) same refl
 with_key-types at (name ∷ names) headings moved e =
     moved_next-types at name headings (with_key (suc at) names headings) moved e (with_key-types (suc at) names headings)
 
@@ -239,7 +253,8 @@ values_fault-append col [] more (v ∷ cells) others l a b = absurd (omega (arit
 values_fault-append col (type ∷ types) more [] others l a b = absurd (omega (arith, l))
 values_fault-append col (type ∷ types) more (v ∷ cells) others l a b =
     let parts = or_fault-none (value_fault type col v) (values_fault (suc col) types cells) a in
-    rw parts.0 (values_fault-append (suc col) types more cells others (omega (arith, l)) parts.1 (values_fault-any col (suc col) more others b))
+    let later = values_fault-any col (suc col) more others b in
+    rw parts.0 (values_fault-append (suc col) types more cells others (omega (arith, l)) parts.1 later)
 
 values_fault-no_cells : (col : ℕ) (types : List ColumnType) → values_fault col types [] ≡ None
 values_fault-no_cells col [] = refl
@@ -293,7 +308,8 @@ arranged-fits : (places : List ℕ) (types : List ColumnType) (cells : List Valu
     × (values_fault 0 (arranged places types) (arranged places cells) ≡ None)
 arranged-fits [] types cells l e = (l, e)
 arranged-fits (place ∷ places) types cells l e =
-    arranged-fits places (fronted place types) (fronted place cells) (fronted-length place types cells l) (fronted-fits place types cells l e)
+    arranged-fits places (fronted place types) (fronted place cells) (fronted-length place types cells l)
+    (fronted-fits place types cells l e)
 
 pub list_fault-arranged : (places : List ℕ) (types : List ColumnType) (cells : List Value) → list_fault types cells ≡ None
     → list_fault (arranged places types) (arranged places cells) ≡ None

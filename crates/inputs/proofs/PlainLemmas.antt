@@ -1,15 +1,19 @@
 -- The columns of a text whose header names no types: cell by cell, record by record, and the key before the others.
-use Rattle.std.proofs.Common.{◌≡◌, ◌∙◌, ◌+◌, ◌<◌, ◌≤◌, ℕ, zero, suc, false, ◌||◌, ◌==◌, List, [], ◌∷◌, ◌++◌, length, take, drop, map, get_or, set, Option, Some, None, Ok, Err, Bor, refl, sym, ap, subst, arith, add-one}
+use Rattle.std.proofs.Common.{◌≡◌, ◌∙◌, ◌+◌, ◌<◌, ◌≤◌, ℕ, zero, suc, false, ◌||◌, ◌==◌, List, [], ◌∷◌, ◌++◌, length, take, drop, map}
+use Rattle.std.proofs.Common.{get_or, set, Option, Some, None, Ok, Err, Bor, refl, sym, ap, subst, arith, add-one}
 use Rattle.std.specs.Prelude.{position}
 use Rattle.std.specs.List.{list_any}
-use Rattle.std.proofs.lemmas.List.{append-nil, append_assoc, length-map, drop-set-lt, drop_all, take-append-drop, take-append-le, take_all, drop-map}
+use Rattle.std.proofs.lemmas.List.{append-nil, append_assoc, length-map, drop-set-lt, drop_all, drop-map}
+use Rattle.std.proofs.lemmas.List.{take-append-drop, take-append-le, take_all}
 use Rattle.std.proofs.lemmas.List.FromFn.{length-map-range_with_len, map-range_with_len_more}
 use Rattle.std.proofs.Math.Seq.{drop-cons, take-suc-set}
 use Rattle.csv.specs.declared.reader.Reader.{Reader}
 use Rattle.values.specs.Shape.{Columns}
 use Rattle.values.specs.declared.value.ColumnType.{ColumnType}
 use Rattle.inputs.specs.Cells.{prepend}
-use Rattle.inputs.specs.Plain.{after_header, columns_found, plain_columns, found_with, names_types, or_text, types_found, types_shown, rekeyed, as_found, first_in_key, has_type, joined, joined_type, kind_of, seen, unseen, plain_heading, plain_headings, with_key, moved_next, moved_to, is_named, Moved}
+use Rattle.inputs.specs.Plain.{after_header, columns_found, plain_columns, found_with, names_types, or_text, types_found, types_shown, rekeyed}
+use Rattle.inputs.specs.Plain.{as_found, first_in_key, has_type, joined, joined_type, kind_of, seen, unseen, plain_heading, plain_headings}
+use Rattle.inputs.specs.Plain.{with_key, moved_next, moved_to, is_named, Moved}
 use Rattle.inputs.specs.Header.{as_schema}
 use Rattle.inputs.specs.Reading.{Fields, AreRecordsOf, IsReading}
 use Rattle.inputs.specs.declared.header.Heading.{Heading}
@@ -184,7 +188,8 @@ types_found-first sample text header types records reader h shown g =
 
 -- ---- whether types are named
 
-pub names_types-none : (text : List ℕ) (records : List Fields) → AreRecordsOf text [] → AreRecordsOf text records → names_types records ≡ false
+pub names_types-none : (text : List ℕ) (records : List Fields) → AreRecordsOf text [] → AreRecordsOf text records
+    → names_types records ≡ false
 names_types-none text records h g = ap names_types (records-same text [] records h g)
 
 pub names_types-first : (text : List ℕ) (header : Fields) (records : List Fields) (reader : Reader (Bor (List ℕ)))

@@ -26,7 +26,8 @@ use Rattle.inputs.proofs.ReadLemmas.{records-same, records-start}
 
 -- ---- faults
 
-pub plain_table_of-none : (text : List ℕ) (key : List (List ℕ)) (sample : ℕ) (all : List Fields) → AreRecordsOf text [] → AreRecordsOf text all
+pub plain_table_of-none : (text : List ℕ) (key : List (List ℕ)) (sample : ℕ) (all : List Fields)
+    → AreRecordsOf text [] → AreRecordsOf text all
     → plain_table_of key sample all ≡ Err (Table NoHeader)
 plain_table_of-none text key sample all h g = ap (plain_table_of key sample) (records-same text [] all h g)
 
@@ -77,12 +78,13 @@ rows_of-arranged : (moved : List ℕ) (count : ℕ) (columns : List Column)
     → map (λ (row : Row). arranged moved row) (rows_of count columns) ≡ rows_of count (arranged moved columns)
 rows_of-arranged moved count columns =
     map-map (λ (row : Row). arranged moved row) (row_at columns) (range_with_len 0 count)
-    ∙ map-same (λ (place : ℕ). arranged moved (row_at columns place)) (λ (place : ℕ). row_at (arranged moved columns) place) (range_with_len 0 count)
-    (λ place. sym (arranged-row moved place columns))
+    ∙ map-same (λ (place : ℕ). arranged moved (row_at columns place)) (λ (place : ℕ). row_at (arranged moved columns) place)
+    (range_with_len 0 count) (λ place. sym (arranged-row moved place columns))
 
 -- ---- tables
 
-module _ (text : List ℕ) (key : List (List ℕ)) (sample : ℕ) (header : Fields) (found : PlainColumns) (columns sorted : List Column) (count : ℕ)
+module _ (text : List ℕ) (key : List (List ℕ)) (sample : ℕ) (header : Fields) (found : PlainColumns)
+    (columns sorted : List Column) (count : ℕ)
     (read : AreRead text header found.types columns count) (are : AreFound text key sample found)
     (distinct : first_repeat found.schema.key_cols (rows_in count (arranged found.moved columns)) ≡ None)
     (each_once : IsPermutation (rows_of count (arranged found.moved columns)) (rows_of count sorted))
@@ -109,9 +111,9 @@ module _ (text : List ℕ) (key : List (List ℕ)) (sample : ℕ) (header : Fiel
       let rows = subst (λ (its : List Row). All (λ row. list_fault found.types row ≡ None) its) (rows_in-alone count columns) one in
       let moved = all-arranged found.moved found.types (rows_of count columns) rows in
       let types = plain_columns-types key sample header read.records found (are (header ∷ read.records) read.are) in
+      let shown = map (λ (row : Row). arranged found.moved row) (rows_of count columns) in
       subst (λ (its : List Row). All (λ row. list_fault found.schema.types row ≡ None) its) (rows_of-arranged found.moved count columns)
-      (subst (λ (types : List ColumnType). All (λ row. list_fault types row ≡ None) (map (λ (row : Row). arranged found.moved row) (rows_of count columns)))
-      (sym types) moved)
+      (subst (λ (types : List ColumnType). All (λ row. list_fault types row ≡ None) shown) (sym types) moved)
 
   pub plain-stable : (rows : ℕ) → rows ≡ count → count ≤ MAX_ROWS → IsStable (record { schema = found.schema; rows = rows_of rows sorted })
   plain-stable rows e few = subst (λ n. IsStable (record { schema = found.schema; rows = rows_of n sorted })) (sym e) (record {

@@ -1,5 +1,6 @@
 -- The records of a text, one after the other, and lists that are read element by element.
-use Rattle.std.proofs.Common.{◌≡◌, ◌∙◌, ◌<◌, ◌≤◌, ℕ, zero, suc, Bool, true, false, List, [], ◌∷◌, ◌++◌, length, drop, slice_get, Option, Some, None, Result, Ok, Err, Bor, refl, sym, ap, append_assoc, inl, subst, arith}
+use Rattle.std.proofs.Common.{◌≡◌, ◌∙◌, ◌<◌, ◌≤◌, ℕ, zero, suc, Bool, true, false, List, [], ◌∷◌, ◌++◌, length, drop, slice_get}
+use Rattle.std.proofs.Common.{Option, Some, None, Result, Ok, Err, Bor, refl, sym, ap, append_assoc, inl, subst, arith}
 use Rattle.std.specs.Result.{IsErrAnd, IfErr, IfOk}
 use Rattle.csv.specs.Machine.{Read}
 use Rattle.csv.specs.Reading.{AreRecords, Reached, ReadRecord, default_config, is_flexible, strip_bom, took_first}

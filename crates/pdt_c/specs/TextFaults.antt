@@ -45,7 +45,8 @@ told_of_plain (NoColumn name) = at 1 name 12
 told_of_plain (Table (BadHeader column)) = at 1 column 13
 told_of_plain (Table fault) = told_of fault
 
--- bytes, if there are any, are the sentence that explains a fault of a text: for some line, on which no contract says that its record begins
+-- bytes, if there are any, are the sentence that explains a fault of a text, with some line number: no contract says on which line a record
+-- begins
 abbrev pub Explains : List ℕ → List ColumnType → TableFault → ℕ → List ℕ → Type 0
 Explains text types fault count room =
     0 < count

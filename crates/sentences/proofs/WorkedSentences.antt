@@ -26,7 +26,8 @@ unfolding is_utf8 chars field_at encode_utf8 digits
 bad_cell = refl
 
 -- the types are given, and the header has names alone
-typed : table_sentence (column.Int ∷ column.Bool ∷ []) 2 ((codes "id" ∷ codes "a:b" ∷ []) ∷ (codes "1" ∷ codes "yes" ∷ []) ∷ []) (BadCell 2 1)
+typed : table_sentence (column.Int ∷ column.Bool ∷ []) 2 ((codes "id" ∷ codes "a:b" ∷ []) ∷ (codes "1" ∷ codes "yes" ∷ []) ∷ [])
+    (BadCell 2 1)
     ≡ codes "line 2, column \"a:b\": \"yes\" is not a bool: true or false is wanted"
 unfolding is_utf8 chars field_at encode_utf8 digits
 typed = refl

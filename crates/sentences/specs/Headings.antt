@@ -1,5 +1,6 @@
 -- What a header cell names, and what is wrong with one that names no column.
-use Rattle.std.specs.Prelude.{ℕ, ◌+◌, ◌++◌, ◌==◌, nat_lt, Bool, false, cond, Option, None, Some, List, [], ◌∷◌, length, take, drop, position, codes, option_map, slice_get}
+use Rattle.std.specs.Prelude.{ℕ, ◌+◌, ◌++◌, ◌==◌, nat_lt, Bool, false, cond, Option, None, Some, List, [], ◌∷◌, length, take, drop}
+use Rattle.std.specs.Prelude.{position, codes, option_map, slice_get}
 use Rattle.std.specs.Option.{option_and_then}
 use Rattle.std.specs.Fmt.{decimal}
 use Rattle.std.specs.Str.{is_utf8}

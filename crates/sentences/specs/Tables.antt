@@ -40,7 +40,8 @@ record_of table.NoMemory = None
 
 abbrev pub heading_sentence : List ColumnType → List ℕ → ℕ → Option (List ℕ) → List ℕ
 heading_sentence types place col None = missing_cell place col
-heading_sentence types place col (Some cell) = place ++ (codes ", column " ++ (decimal (col + 1) ++ (codes ": " ++ heading_fault types cell)))
+heading_sentence types place col (Some cell) =
+    place ++ (codes ", column " ++ (decimal (col + 1) ++ (codes ": " ++ heading_fault types cell)))
 
 abbrev pub repeated_sentence : List ColumnType → List ℕ → ℕ → Option (List ℕ) → List ℕ
 repeated_sentence types place col None = missing_cell place col
@@ -63,7 +64,8 @@ schema_sentence types place header schema.NoMemory = textless table.NoMemory
 
 abbrev pub count_sentence : List ℕ → Fields → Fields → List ℕ
 count_sentence place header fields =
-    place ++ (codes ": " ++ (counted (length fields) (codes "cell") ++ (codes ", and the header has " ++ counted (length header) (codes "column"))))
+    place
+    ++ (codes ": " ++ (counted (length fields) (codes "cell") ++ (codes ", and the header has " ++ counted (length header) (codes "column"))))
 
 -- the key, where the header names its columns
 abbrev pub repeat_sentence : List ColumnType → List ℕ → Fields → Fields → List ℕ

@@ -26,7 +26,8 @@ returns-in_err-sorted-clause-err c =
     (λ ne text start all g.
     let read = rw c.types.ensures at (c.in_ok-rows.ensures.ok text first.0 (first.2 text start)) in
     let found = rw c.key_cols.ensures.count at (c.in_err-sorted.ensures.err ne) in
-    rw found.2 (table_of-read text first.0 all schema columns count read first.1 g ∙ ap (unless_repeated schema (rows_in count columns)) found.1))
+    rw found.2 (table_of-read text first.0 all schema columns count read first.1 g
+    ∙ ap (unless_repeated schema (rows_in count columns)) found.1))
 
 pub of_columns-requires-clause-even : goal.of_columns-requires-clause-even
 of_columns-requires-clause-even c =

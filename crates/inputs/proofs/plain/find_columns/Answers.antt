@@ -10,7 +10,8 @@ returns-then-not-branch-clause-err c ne records g =
     let text = c.args.text.now in
     let start = subst (IsReading text []) (sym c.as_mut.ensures.value) c.in_ok-reader.ensures in
     let none : c.in_ok-next_record.field-0 ≡ false = search rules in
-    plain_columns-none (map (λ (it : Bor (List ℕ)). it.now) c.args.key.now) c.args.sample text records (rw none at (c.in_ok-next_record.ensures text [] start)) g
+    let names = map (λ (it : Bor (List ℕ)). it.now) c.args.key.now in
+    plain_columns-none names c.args.sample text records (rw none at (c.in_ok-next_record.ensures text [] start)) g
 
 pub show_types-requires : goal.show_types-requires
 show_types-requires c =
@@ -32,7 +33,8 @@ returns-clause-ok c =
     let shown = rw (c.len.ensures, c.as_mut-2.ensures.value) at c.in_ok-types.ensures.shown in
     then-ok c.header_columns.result _ _
     (λ found is records g.
-    plain_columns-first names c.args.sample text header c.in_ok-types.types.items records _ first (λ rest at. shown text header rest first at) g
+    plain_columns-first names c.args.sample text header c.in_ok-types.types.items records _ first
+    (λ rest at. shown text header rest first at) g
     ∙ is)
     c.header_columns.ensures.ok
 
@@ -46,6 +48,7 @@ returns-clause-err c =
     let shown = rw (c.len.ensures, c.as_mut-2.ensures.value) at c.in_ok-types.ensures.shown in
     then-err c.header_columns.result _ _
     (λ fault is ne records g.
-    plain_columns-first names c.args.sample text header c.in_ok-types.types.items records _ first (λ rest at. shown text header rest first at) g
+    plain_columns-first names c.args.sample text header c.in_ok-types.types.items records _ first
+    (λ rest at. shown text header rest first at) g
     ∙ is ne)
     c.header_columns.ensures.err

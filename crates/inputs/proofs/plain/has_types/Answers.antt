@@ -17,5 +17,6 @@ returns c records g =
           (rw one at (c.in_ok-found.ensures c.args.text.now [] start)) g)
       | else-found w ↦
           let none : c.in_ok-found.found ≡ false = search rules in
-          w.result-is ∙ none ∙ sym (names_types-none c.args.text.now records (rw none at (c.in_ok-found.ensures c.args.text.now [] start)) g)
+          let empty = rw none at (c.in_ok-found.ensures c.args.text.now [] start) in
+          w.result-is ∙ none ∙ sym (names_types-none c.args.text.now records empty g)
     ]

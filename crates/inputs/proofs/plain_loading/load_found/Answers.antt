@@ -8,11 +8,16 @@ use Rattle.inputs.specs.Filling.{rows_in}
 use Rattle.inputs.specs.Input.{keyed, unless_repeated}
 use Rattle.inputs.specs.Plain.{PlainColumns, arranged, as_plain, moved_rows}
 use Rattle.inputs.specs.declared.fault.PlainFault.TheVariants.{Table}
+use Rattle.inputs.specs.declared.plain.FoundColumns.{FoundColumns}
 use Rattle.inputs.proofs.ArrangedLemmas.{arranged-all}
 use Rattle.inputs.proofs.LoadLemmas.{columns-count, columns-even}
-use Rattle.inputs.proofs.PlainTableLemmas.{plain_table_of-none, plain_table_of-under, plain_table_of-read, types_in-moved, plain-table, plain-stable}
+use Rattle.inputs.proofs.PlainTableLemmas.{plain_table_of-none, plain_table_of-under, plain_table_of-read, types_in-moved}
+use Rattle.inputs.proofs.PlainTableLemmas.{plain-table, plain-stable}
 use Rattle.inputs.proofs.ReadLemmas.{passed-up}
 use Rattle.inputs.proofs.plain_loading.load_found.Goals as goal
+
+abbrev now : FoundColumns → PlainColumns
+now found = record { schema = found.schema; types = found.types.items; moved = found.moved.items }
 
 pub returns-then-not-branch-clause-err : goal.returns-then-not-branch-clause-err
 returns-then-not-branch-clause-err c ne text key sample start are all g =
@@ -27,7 +32,7 @@ read_rows-requires c =
 pub returns-in_err-rows-clause-err : goal.returns-in_err-rows-clause-err
 returns-in_err-rows-clause-err c =
     let header = fields_of c.next_record.new.fields in
-    let found : PlainColumns = record { schema = c.args.found.schema; types = c.args.found.types.items; moved = c.args.found.moved.items } in
+    let found = now c.args.found in
     passed-up c.from_residual-in_err-rows.result _ _ c.from_residual-in_err-rows.ensures.1
     (λ ne text key sample start are all g.
     let first = rw c.if-not-branch.false at (c.in_ok-next_record.ensures text [] start) in
@@ -38,7 +43,7 @@ returns-in_err-rows-clause-err c =
 pub in_ascending_key-requires-clause-key : goal.in_ascending_key-requires-clause-key
 in_ascending_key-requires-clause-key c =
     let header = fields_of c.next_record.new.fields in
-    let found : PlainColumns = record { schema = c.args.found.schema; types = c.args.found.types.items; moved = c.args.found.moved.items } in
+    let found = now c.args.found in
     let first = rw c.if-not-branch.false at (c.in_ok-next_record.ensures c.requires.0 [] c.requires.3) in
     let read = rw c.as_slice.ensures.value at (c.in_ok-rows.ensures.ok c.requires.0 header first) in
     let typed =
@@ -58,7 +63,7 @@ in_ascending_key-requires-clause-filled c =
 pub returns-in_err-sorted-clause-err : goal.returns-in_err-sorted-clause-err
 returns-in_err-sorted-clause-err c =
     let header = fields_of c.next_record.new.fields in
-    let found : PlainColumns = record { schema = c.args.found.schema; types = c.args.found.types.items; moved = c.args.found.moved.items } in
+    let found = now c.args.found in
     let columns = c.in_ok-rows.rows.columns.items in
     let count = c.in_ok-rows.rows.count in
     let moved = rw c.as_slice-2.ensures.value at c.in_ok-columns.ensures in
@@ -74,7 +79,7 @@ returns-in_err-sorted-clause-err c =
 pub of_columns-requires-clause-typed : goal.of_columns-requires-clause-typed
 of_columns-requires-clause-typed c =
     let header = fields_of c.next_record.new.fields in
-    let found : PlainColumns = record { schema = c.args.found.schema; types = c.args.found.types.items; moved = c.args.found.moved.items } in
+    let found = now c.args.found in
     let first = rw c.if-not-branch.false at (c.in_ok-next_record.ensures c.requires.0 [] c.requires.3) in
     let read = rw c.as_slice.ensures.value at (c.in_ok-rows.ensures.ok c.requires.0 header first) in
     let moved = rw c.as_slice-2.ensures.value at c.in_ok-columns.ensures in
@@ -85,7 +90,7 @@ of_columns-requires-clause-typed c =
 pub of_columns-requires-clause-even : goal.of_columns-requires-clause-even
 of_columns-requires-clause-even c =
     let header = fields_of c.next_record.new.fields in
-    let found : PlainColumns = record { schema = c.args.found.schema; types = c.args.found.types.items; moved = c.args.found.moved.items } in
+    let found = now c.args.found in
     let first = rw c.if-not-branch.false at (c.in_ok-next_record.ensures c.requires.0 [] c.requires.3) in
     let read = rw c.as_slice.ensures.value at (c.in_ok-rows.ensures.ok c.requires.0 header first) in
     let moved = rw c.as_slice-2.ensures.value at c.in_ok-columns.ensures in
@@ -98,7 +103,7 @@ of_columns-requires-clause-even c =
 pub of_columns-requires-clause-table : goal.of_columns-requires-clause-table
 of_columns-requires-clause-table c =
     let header = fields_of c.next_record.new.fields in
-    let found : PlainColumns = record { schema = c.args.found.schema; types = c.args.found.types.items; moved = c.args.found.moved.items } in
+    let found = now c.args.found in
     let columns = c.in_ok-rows.rows.columns.items in
     let count = c.in_ok-rows.rows.count in
     let sorted = c.in_ok-sorted.sorted.items in
@@ -119,7 +124,7 @@ of_columns-requires-clause-table c =
 pub returns-clause-ok : goal.returns-clause-ok
 returns-clause-ok c text key sample start are =
     let header = fields_of c.next_record.new.fields in
-    let found : PlainColumns = record { schema = c.args.found.schema; types = c.args.found.types.items; moved = c.args.found.moved.items } in
+    let found = now c.args.found in
     let columns = c.in_ok-rows.rows.columns.items in
     let count = c.in_ok-rows.rows.count in
     let sorted = c.in_ok-sorted.sorted.items in

@@ -1,4 +1,5 @@
-use Rattle.std.proofs.Common.{◌≡◌, ◌∙◌, ◌++◌, ◌∷◌, List, ℕ, drop, suc, ap, true, false, add-one, append_assoc, append-nil, sym, arith, rules, string_bytes}
+use Rattle.std.proofs.Common.{◌≡◌, ◌∙◌, ◌++◌, ◌∷◌, List, ℕ, drop, suc, ap, true, false, add-one, append_assoc, append-nil, sym}
+use Rattle.std.proofs.Common.{arith, rules, string_bytes}
 use Rattle.csv.specs.Records.{fields_of}
 use Rattle.inputs.proofs.CallerLemmas.{field-drop, field-there}
 use Rattle.sentences.specs.Headings.{is_key_heading}
@@ -15,7 +16,8 @@ unreachable-requires c =
 pub returns-in-None-get : goal.returns-in-None-get
 returns-in-None-get c =
     let past = nothing-past (fields_of c.args.fields.now) c.loop-at.at (rw c.in-None-get.is at c.get-in-loop-at.ensures.value) in
-    let none = key_parts-ended c.loop-at.at (drop c.loop-at.at (fields_of c.args.header.now)) (drop c.loop-at.at (fields_of c.args.fields.now)) past in
+    let names = drop c.loop-at.at (fields_of c.args.header.now) in
+    let none = key_parts-ended c.loop-at.at names (drop c.loop-at.at (fields_of c.args.fields.now)) past in
     sym (append-nil _) ∙ ap (λ (parts : List ℕ). string_bytes c.loop-at.text ++ parts) (sym none) ∙ c.loop-at.invariant
 
 pub returns-then-not-is_key_heading : goal.returns-then-not-is_key_heading

@@ -12,7 +12,8 @@ returns-in-Ok-clause-text c = let cases = c.in-Ok.ensures.cases in rw (is_utf8-f
 pub returns-in-Ok-clause-short : goal.returns-in-Ok-clause-short
 returns-in-Ok-clause-short c =
     let short = length-cut c.args.room (map escaped (chars c.in-Ok.text.now)) in
-    then-ok c.quoted_text.result _ _ (λ text is. subst (λ (bytes : List ℕ). length bytes ≤ c.args.room + 5) (sym is) (omega (arith, short)))
+    then-ok c.quoted_text.result _ _
+    (λ text is. subst (λ (bytes : List ℕ). length bytes ≤ c.args.room + 5) (sym is) (omega (arith, short)))
     c.quoted_text.ensures
 
 pub returns-in-Err-clause-text : goal.returns-in-Err-clause-text
@@ -22,5 +23,6 @@ returns-in-Err-clause-text c =
 pub returns-in-Err-clause-short : goal.returns-in-Err-clause-short
 returns-in-Err-clause-short c =
     let short = length-cut c.args.room (map escaped_byte c.args.bytes.now) in
-    then-ok c.quoted_bytes.result _ _ (λ text is. subst (λ (bytes : List ℕ). length bytes ≤ c.args.room + 5) (sym is) (omega (arith, short)))
+    then-ok c.quoted_bytes.result _ _
+    (λ text is. subst (λ (bytes : List ℕ). length bytes ≤ c.args.room + 5) (sym is) (omega (arith, short)))
     c.quoted_bytes.ensures

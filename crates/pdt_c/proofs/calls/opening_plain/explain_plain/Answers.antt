@@ -10,6 +10,7 @@ returns-in-Ok c =
     let told = c.explain.ensures some in (
       told.0,
       λ records g.
-          subst (λ (types : List ColumnType). IsPut c.explain.result c.explain.new.sentence (table_sentence types told.0 records c.in-Table.first))
+          subst
+          (λ (types : List ColumnType). IsPut c.explain.result c.explain.new.sentence (table_sentence types told.0 records c.in-Table.first))
           (c.as_slice.ensures.value ∙ c.in-Ok.ensures records g) (told.1 records g),
     ))
