@@ -106,8 +106,9 @@ fn show_types<'a>(
 ) -> Result<Vec<ColumnType>, NoMemory>
     requires { (text : List ℕ) × (header : Fields) × IsReading text (header ∷ []) reader.old }
     ensures wide { IfOk result (λ types. length types.items ≡ width) }
-    ensures shown { IfOk result (λ types. (text : List ℕ) (header : Fields) (records : List Fields) → IsReading text (header ∷ []) reader.old
-        → AreRecordsOf text (header ∷ records) → types.items ≡ types_shown width (take sample records)) }
+    ensures shown { IfOk result (λ types. (text : List ℕ) (header : Fields) (records : List Fields)
+        → IsReading text (header ∷ []) reader.old → AreRecordsOf text (header ∷ records)
+        → types.items ≡ types_shown width (take sample records)) }
 {
     let mut kinds = no_kinds(alloc, width)?;
     let mut fields = ByteRecord::new(alloc);
