@@ -115,6 +115,7 @@ pub extern "C" fn pdtr_manifest_table(
     ensures kept { manifest.new.value ≡ manifest.old.value }
     ensures line { IfSome manifest.old.value (λ m. IfSome (slice_get m.tables table) (λ t. line.new ≡ line_record t)) }
     ensures name { IfSome manifest.old.value (λ m. IfSome (slice_get m.tables table) (λ t. IsPut result name.new t.line.name)) }
+    ensures none { IfSome manifest.old.value (λ m. slice_get m.tables table ≡ None → result ≡ 0) }
 {
     let held = listed::take(alloc, manifest);
     let len = put_table(held.tables.as_slice(), table, line, name);
@@ -125,6 +126,7 @@ pub extern "C" fn pdtr_manifest_table(
 fn put_table(tables: &[ListedTable], at: usize, line: &mut LineRecord, name: &mut [u8]) -> usize
     ensures line { IfSome (slice_get (map listed_now tables.now) at) (λ t. line.new ≡ line_record t) }
     ensures name { IfSome (slice_get (map listed_now tables.now) at) (λ t. IsPut result name.new t.line.name) }
+    ensures none { slice_get (map listed_now tables.now) at ≡ None → result ≡ 0 }
 {
     if at >= tables.len() {
         return 0;
@@ -146,6 +148,9 @@ pub extern "C" fn pdtr_manifest_mark(
     ensures kept { manifest.new.value ≡ manifest.old.value }
     ensures mark { IfSome manifest.old.value (λ m. IfSome (slice_get m.tables table) (λ t. IfSome (slice_get (marks_of t) file)
         (λ found. (result ≡ DONE) × (mark.new ≡ mark_record found)))) }
+    ensures no_table { IfSome manifest.old.value (λ m. slice_get m.tables table ≡ None → result ≡ MISSING) }
+    ensures no_file { IfSome manifest.old.value (λ m. IfSome (slice_get m.tables table)
+        (λ t. slice_get (marks_of t) file ≡ None → result ≡ MISSING)) }
 {
     let held = listed::take(alloc, manifest);
     let code = put_mark(held.tables.as_slice(), table, file, mark);
@@ -154,8 +159,11 @@ pub extern "C" fn pdtr_manifest_mark(
 }
 
 fn put_mark(tables: &[ListedTable], at: usize, file: usize, mark: &mut MarkRecord) -> u32
-    ensures { IfSome (slice_get (map listed_now tables.now) at) (λ t. IfSome (slice_get (marks_of t) file)
+    ensures mark { IfSome (slice_get (map listed_now tables.now) at) (λ t. IfSome (slice_get (marks_of t) file)
         (λ found. (result ≡ DONE) × (mark.new ≡ mark_record found))) }
+    ensures no_table { slice_get (map listed_now tables.now) at ≡ None → result ≡ MISSING }
+    ensures no_file { IfSome (slice_get (map listed_now tables.now) at)
+        (λ t. slice_get (marks_of t) file ≡ None → result ≡ MISSING) }
 {
     if at >= tables.len() {
         return MISSING;

@@ -5,6 +5,7 @@ ghost use Rattle.pdt_c.specs.Told.{IsPut, code_of_type};
 
 use crate::handles::store;
 use crate::handles::store::Store;
+use crate::text_fault::put;
 use manager::Manager;
 use std::alloc::Global;
 use values::ColumnType;
@@ -112,9 +113,5 @@ fn put_name(manager: &Manager, col: usize, out: &mut [u8]) -> usize
     if col >= schema.width() {
         return 0;
     }
-    let name = schema.name(col).as_bytes();
-    if name.len() <= out.len() {
-        out[..name.len()].copy_from_slice(name);
-    }
-    name.len()
+    put(schema.name(col).as_bytes(), out)
 }
