@@ -1,0 +1,12 @@
+pub mod BeginLemmas
+pub mod BesideLemmas
+pub mod ChainLemmas
+pub mod CrashLemmas
+pub mod DoneLemmas
+pub mod DueLemmas
+pub mod FailLemmas
+pub mod FileLemmas
+pub mod GrowLemmas
+pub mod IdleLemmas
+pub mod StartLemmas
+pub mod WishLemmas
