@@ -27,17 +27,11 @@ typedef struct {
    with. */
 enum { JOURNAL_FILES = 4096, JOURNAL_HEADER = 36, FRAME_HEAD = 28, FILE_NAME = 64, CHECK_SEED = -1 };
 
-/* How long a file is, and the CRC-32C of its bytes. */
-typedef struct {
-  uint64_t len;
-  uint32_t check;
-} pdti_file_mark;
-
 /* An image of a table. */
 typedef struct {
-  uint64_t number; /* it has the commits up to this one */
-  uint64_t folder; /* and is in the folder image-TABLE-FOLDER: no other image ever has it */
-  pdti_file_mark header, columns[PDT_MAX_COLUMNS];
+  uint64_t number;                                     /* it has the commits up to this one */
+  uint64_t folder;                                     /* and is in the folder image-TABLE-FOLDER: no other image ever has it */
+  pdti_manifest_mark header, columns[PDT_MAX_COLUMNS]; /* how long its files are, and their checks */
 } pdti_table_image;
 
 /* A table of a database. */
@@ -196,9 +190,15 @@ int pdti_read_in(int dir, const char *name, pdti_buffer *into);
 int pdti_close_synced(int file, int code);
 void pdti_remove_in(int dir, const char *name); /* and leaves errno as it is */
 
-/* Calls with each name in a folder that begins so and goes on with a number, or two that a dash parts. PDT_IO, PDT_NOMEM: not with all. */
+/* Calls with each file in a folder that has the name of one of this kind, and its numbers. PDT_IO, PDT_NOMEM: not with all. */
 typedef void (*pdti_each)(void *context, const char *name, uint64_t first, uint64_t second);
-int pdti_names(int dir, const char *front, pdti_each each, void *context);
+int pdti_names(int dir, uint32_t kind, pdti_each each, void *context);
+
+/* The name of such a file, for which there is room for FILE_NAME bytes. It is empty where no file has these numbers. */
+void pdti_name_file(char *name, uint32_t kind, uint64_t first, uint64_t second);
+
+/* Puts the bytes of a handle's one column behind those of a buffer, and lets the handle go. PDT_NOMEM. */
+int pdti_take_bytes(pdti_handle *bytes, pdti_buffer *into);
 
 /* ---- torn.c: what is torn off a journal's end */
 
@@ -229,9 +229,6 @@ void pdti_remove_new(pdt_database *database, const char *folder);
 
 /* Begins the journal of a new database, under its name: a salt that is drawn, and a file with no bytes. */
 int pdti_begin_journal(pdt_database *database);
-
-/* Whether the bytes of a file begin with a journal's header of a later version, and aren't damaged there. */
-bool pdti_is_newer_header(const pdti_buffer *bytes);
 
 /* Opens what is in it, or makes it new. */
 int pdti_open_folder(pdt_database *database, pdt_report *report);

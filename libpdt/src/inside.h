@@ -80,6 +80,14 @@ typedef struct {
   uint32_t check;
 } pdti_manifest_mark;
 
+/* a file of a database's folder: its kind, and its numbers. A journal's is the first; an image has its table's and its own, declared
+   columns their table's */
+typedef struct {
+  uint64_t first, second;
+  uint32_t kind;
+} pdti_file_name;
+enum { PDTI_JOURNAL = 1, PDTI_IMAGE = 2, PDTI_TYPES = 3 };
+
 extern uint32_t pdtr_open(const uint8_t *, size_t, size_t, uint64_t, bool, pdti_text_fault *, uint8_t *, size_t, size_t *, pdti_handle *);
 extern uint32_t pdtr_has_types(const uint8_t *, size_t, bool *);
 extern uint32_t pdtr_open_plain(const uint8_t *, size_t, const pdti_slice *, size_t, size_t, size_t, uint64_t, bool, pdti_text_fault *,
@@ -92,6 +100,15 @@ extern size_t pdtr_manifest_head(pdti_handle *, pdti_manifest_head *);
 extern size_t pdtr_manifest_table(pdti_handle *, size_t, pdti_manifest_line *, uint8_t *, size_t);
 extern uint32_t pdtr_manifest_mark(pdti_handle *, size_t, size_t, pdti_manifest_mark *);
 extern void pdtr_manifest_close(pdti_handle *);
+extern uint32_t pdtr_manifest_new(const pdti_manifest_head *, pdti_handle *);
+extern uint32_t pdtr_manifest_add(pdti_handle *, const pdti_manifest_line *, const uint8_t *, size_t, const pdti_manifest_mark *,
+                                  const pdti_manifest_mark *, size_t);
+extern uint32_t pdtr_manifest_bytes(pdti_handle *, pdti_handle *);
+extern bool pdtr_has_mark(uint64_t, uint32_t, const uint8_t *, size_t);
+extern uint32_t pdtr_file_read(const uint8_t *, size_t, pdti_file_name *);
+extern size_t pdtr_file_name(uint32_t, uint64_t, uint64_t, uint8_t *, size_t);
+extern uint32_t pdtr_types_read(const uint8_t *, size_t, size_t, size_t, uint8_t *, size_t, size_t *);
+extern uint32_t pdtr_types_bytes(const pdti_slice *, size_t, pdti_handle *);
 extern void pdtr_close(pdti_handle *);
 extern size_t pdtr_width(pdti_handle *);
 extern size_t pdtr_key_columns(pdti_handle *);
@@ -162,9 +179,7 @@ extern uint32_t pdtr_pin_again(pdti_handle *, pdti_handle *);
 extern uint64_t pdtr_pinned(pdti_handle *);
 extern void pdtr_unpin(pdti_handle *);
 
-/* the journal: a header has 36 bytes, and a frame's head 28. What pdtr_journal_read answers of a header in another version of the format */
-enum { PDTI_UNKNOWN_VERSION = 27 };
-
+/* the journal: a header has 36 bytes, and a frame's head 28 */
 extern uint32_t pdtr_check(uint32_t, const uint8_t *, size_t);
 extern bool pdtr_journal_header(uint64_t, uint64_t, uint64_t, uint8_t *, size_t);
 extern uint32_t pdtr_journal_read(const uint8_t *, size_t, pdti_journal_header *);

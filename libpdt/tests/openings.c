@@ -269,12 +269,15 @@ static void journal_of_later_version(void) {
   is("a journal of a later version", PDT_NEWER_FORMAT, try_open(&quiet, &database));
   is("which file", 0, strcmp(report.file, "journal-1"));
   is("nothing is changed", 1, before == seen(folder));
-  bytes[35] ^= 1;
-  file = fopen(in("journal-1"), "r+b");
-  is("write", 1, (long long)fwrite(bytes, len, 1, file));
-  fclose(file);
-  int code = try_open(&quiet, &database);
-  is("a damaged one", 1, code == PDT_CORRUPT || code == PDT_INCOMPLETE);
+  for (int earlier = 0; earlier < 2; earlier++) { /* a damaged one, and one of an earlier version, which there is none of */
+    if (earlier) bytes[7] = 0, check = check_of((const char *)bytes, 32);
+    for (int i = 0; i < 4; i++) bytes[32 + i] = (uint8_t)(check >> (24 - 8 * i)) ^ (uint8_t)(i == 3 && !earlier);
+    file = fopen(in("journal-1"), "r+b");
+    is("write", 1, (long long)fwrite(bytes, len, 1, file));
+    fclose(file);
+    int code = try_open(&quiet, &database);
+    is("a damaged one", 1, code == PDT_CORRUPT || code == PDT_INCOMPLETE);
+  }
 }
 
 static void of_later_version(void) {
@@ -334,7 +337,13 @@ static void of_the_user(void) {
   make("owned", 2);
   append("types-77", "mine", 4);
   append("notes.txt", "mine", 4);
+  /* each number has one spelling, and each kind of file as many numbers as it has */
+  static const char *const names[] = {"journal-01", "journal-1-0", "journal-+1",      "journal-18446744073709551616",
+                                      "image-1",    "image-01-1",  "image-1-2-3",     "image-4294967296-1",
+                                      "types-01",   "types-1-1",   "types-4294967296"};
+  for (size_t i = 0; i < sizeof names / sizeof *names; i++) append(names[i], "mine", 4);
   closed(opened(&quiet));
+  for (size_t i = 0; i < sizeof names / sizeof *names; i++) is(names[i], 4, length(names[i]));
   is("no table's", 4, length("types-77"));
   is("a note", 4, length("notes.txt"));
 }

@@ -3,3 +3,7 @@ pub mod NumberLemmas
 pub mod LineLemmas
 pub mod LoopLemmas
 pub mod ManifestLemmas
+pub mod WritingLemmas
+pub mod VersionLemmas
+pub mod FileNameLemmas
+pub mod TypesLemmas

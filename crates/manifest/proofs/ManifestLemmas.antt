@@ -30,7 +30,7 @@ and_true : (a b : Bool) → (a && b) ≡ true → (a ≡ true) × (b ≡ true)
 and_true true b e = (refl, e)
 and_true false b e = absurd cc
 
-checked_takes : (bytes body : List ℕ) → checked bytes ≡ Some body → bytes ≡ with_end body
+pub checked_takes : (bytes body : List ℕ) → checked bytes ≡ Some body → bytes ≡ with_end body
 unfolding checked
 checked_takes bytes body e =
     let n = length bytes - 13 in
@@ -53,7 +53,7 @@ checked_takes bytes body e =
     no : {A : Type 0} {x : A} → ◌≡◌ {A = Option A} None (Some x) → ⊥
     no e = cc e
 
-checked_again : (body : List ℕ) → checked (with_end body) ≡ Some body
+pub checked_again : (body : List ℕ) → checked (with_end body) ≡ Some body
 unfolding checked
 checked_again body =
     let check = crc all_ones body in

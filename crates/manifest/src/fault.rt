@@ -1,6 +1,7 @@
-//! Why a manifest isn't read.
+//! Why a manifest isn't read, or isn't written.
 ghost use Rattle.std.specs.Prelude.{◌≡◌};
 ghost use Rattle.manifest.specs.declared.fault.ManifestFault.TheVariants as manifest_fault;
+ghost use Rattle.manifest.specs.declared.fault.WriteFault.TheVariants as write_fault;
 
 use std::alloc::{AllocError, AllocFailed};
 use thiserror::Error;
@@ -29,5 +30,24 @@ impl<T: Drop> From<AllocFailed<T>> for ManifestFault {
 
     fn from(_: AllocFailed<T>) -> ManifestFault {
         ManifestFault::NoMemory
+    }
+}
+
+/// Why a manifest isn't written.
+#[derive(Clone, Copy, Debug, PartialEq, Eq, Error)]
+pub enum WriteFault {
+    /// The manifest has no spelling.
+    #[error("Unlawful")]
+    Unlawful,
+    /// A growth was refused.
+    #[error("NoMemory")]
+    NoMemory,
+}
+
+impl From<AllocError> for WriteFault {
+    ghost from_gives = { λ _ fault. fault ≡ write_fault.NoMemory };
+
+    fn from(_: AllocError) -> WriteFault {
+        WriteFault::NoMemory
     }
 }

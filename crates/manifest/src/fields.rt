@@ -2,11 +2,10 @@
 ghost use Rattle.std.specs.Prelude.{◌≡◌, ◌≤◌, ◌<◌, ◌*◌, ◌+◌, ◌-◌, IfSome, SomeIff, length, option_map};
 ghost use Rattle.manifest.specs.Reading.{after_word, byte_at, digit_at, digits_at, flag_at, line_end, long_at, name_at, number_at, number_from, seen, short_at, word_at};
 
+use crate::names::MAX_NAME;
+
 /// What ends a line.
 const LINE_FEED: u8 = b'\n';
-
-/// How many bytes a name has at most.
-const MAX_NAME: usize = 64;
 
 /// The bytes after a word that is in front.
 pub(crate) fn after_word<'a>(bytes: &'a [u8], word: &[u8]) -> Option<&'a [u8]>

@@ -46,7 +46,7 @@ fn manifest_of(alloc: Global, bytes: &[u8]) -> Result<Manifest<'_>, ManifestFaul
 
 /// The bytes before the last line, where the check that it says is theirs.
 #[tactic(auto, unfolding(crate::specs::Reading::checked))]
-fn checked(bytes: &[u8]) -> Option<&[u8]>
+pub(crate) fn checked(bytes: &[u8]) -> Option<&[u8]>
     ensures { option_map (λ body. body.now) result ≡ checked bytes.now }
 {
     if bytes.len() < END_BYTES {

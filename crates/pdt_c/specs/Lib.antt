@@ -18,3 +18,4 @@ pub mod Entries
 pub mod Filling
 pub mod Columns
 pub mod Listed
+pub mod FileNames

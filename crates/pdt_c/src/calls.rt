@@ -3,11 +3,14 @@
 mod bools;
 mod checkpoints;
 mod commits;
+mod declared_columns;
 mod entries;
+mod file_names;
 mod image_bytes;
 mod importing;
 mod ints;
 mod journals;
+mod manifest_bytes;
 mod manifests;
 mod marks;
 mod opening;

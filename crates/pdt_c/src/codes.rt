@@ -1,7 +1,6 @@
 //! What a call answers C, as numbers. `pdt.h` has their names.
 ghost use Rattle.std.specs.Prelude.{◌≡◌, ◌≢◌, ◌<◌, ◌⊎◌, IfOk, IfErr, Ok, Err};
 ghost use Rattle.pdt_c.specs.Importing.{told_marks, told_reading};
-ghost use Rattle.pdt_c.specs.Journals.{code_of_header};
 ghost use Rattle.pdt_c.specs.Reopening.{told_fault};
 ghost use Rattle.pdt_c.specs.Told.{told, code_of_reply};
 ghost use Rattle.pdt_c.specs.declared.codes.TheConstants.{BAD_LIMIT, BAD_STORE, BAD_TABLE, DONE, NOT_ASCENDING, NO_MEMORY, ROT, SHAPE, TOO_LONG, TOO_MANY_ROWS};
@@ -14,7 +13,6 @@ use devices::StoreFault;
 use frames::ReadFault;
 use images::ImagesFault;
 use inputs::TableFault;
-use journal::HeaderFault;
 use manager::OpenFault;
 use model::{CommitReply, WriteReply};
 use replay::RecoverFault;
@@ -59,8 +57,8 @@ pub(crate) const MISFIT: u32 = 23;
 
 pub(crate) const TOO_LONG: u32 = 26;
 
-/// The journal's header is of a version of the format that this library doesn't know.
-pub(crate) const UNKNOWN_VERSION: u32 = 27;
+/// The bytes are of a later version of their format, and have its check.
+pub(crate) const NEWER_FORMAT: u32 = 27;
 
 /// No column has this number.
 pub(crate) const NO_COLUMN: u64 = 64;
@@ -185,16 +183,6 @@ pub(crate) fn code_of_spelling(fault: SpellFault) -> u32
     match fault {
         SpellFault::TooLong => TOO_LONG,
         SpellFault::NoMemory => NO_MEMORY,
-    }
-}
-
-/// The code of why bytes begin with no journal's header.
-pub(crate) fn code_of_header(fault: HeaderFault) -> u32
-    ensures { result ≡ code_of_header fault }
-{
-    match fault {
-        HeaderFault::UnknownVersion => UNKNOWN_VERSION,
-        _ => ROT,
     }
 }
 

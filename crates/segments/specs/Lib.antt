@@ -2,3 +2,4 @@ pub mod Listing
 pub mod Marks
 pub mod Naming
 pub mod Pieces
+pub mod Version

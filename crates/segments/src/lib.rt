@@ -1,5 +1,5 @@
 //! The files of a database, before any of them is taken for what it says: which table is meant, whether a file of an image is the one
-//! that the manifest means, which files the journal has, and these as the one journal that they are.
+//! that the manifest means, which files the journal has, whether one is of a later version, and these as the one journal that they are.
 //!
 //! *What a contract sees.* A piece is the frames of a file, with the base that its header says. A journal in files is its pieces, the
 //! base of the first and the frames of all, behind one another.
@@ -13,9 +13,11 @@ mod listing;
 mod marks;
 mod naming;
 mod pieces;
+mod version;
 
 pub use fault::{JoinFault, MissingFile, NameFault};
 pub use listing::last_file;
 pub use marks::{first_damaged, has_mark};
 pub use naming::table_named;
 pub use pieces::{Joined, Piece, are_behind, join_files, last_len};
+pub use version::is_later_header;

@@ -7,3 +7,5 @@ mod damages;
 mod grammar;
 #[cfg(test)]
 mod worked;
+#[cfg(test)]
+mod written;

@@ -8,10 +8,9 @@
 #include "database.h"
 
 #include <fcntl.h>
-#include <inttypes.h>
 #include <stdio.h>
 
-enum { LINE = PDTI_FORMAT_BYTES + 16, END = 13 };
+enum { END = 13 }; /* how many bytes the last line has */
 
 const char *pdt_declared(const pdt_table *table, size_t column) {
   bool is_there = table && column < table->width && *table->declared[column];
@@ -58,64 +57,65 @@ static int refuse_format(const pdt_table *table, size_t column, const char *form
 
 /* ---- files */
 
-static void name_types(char *name, uint32_t member) { snprintf(name, FILE_NAME, "types-%" PRIu32, member); }
+static void name_types(char *name, uint32_t member) { pdti_name_file(name, PDTI_TYPES, member, 0); }
 
-static uint32_t check_of(const char *bytes, size_t len) { return pdtr_check((uint32_t)CHECK_SEED, (const uint8_t *)bytes, len); }
-
-/* The file's text, for which there is room for a line of each column and one more. */
-static size_t put_types(const pdt_table *table, char *text) {
-  size_t len = 0;
+/* The file's text. */
+static int put_types(const pdt_table *table, pdti_buffer *text) {
+  pdti_slice formats[PDT_MAX_COLUMNS];
+  pdti_handle bytes = {NULL};
   for (size_t column = 0; column < table->width; column++)
-    if (*table->declared[column]) len += (size_t)snprintf(text + len, LINE, "%zu %s\n", column, table->declared[column]);
-  return len + (size_t)snprintf(text + len, LINE, "end %08" PRIx32 "\n", check_of(text, len));
+    formats[column] = (pdti_slice){(const uint8_t *)table->declared[column], strlen(table->declared[column])};
+  int code = (int)pdtr_types_bytes(formats, table->width, &bytes);
+  return code ? code : pdti_take_bytes(&bytes, text);
+}
+
+/* Writes it into a file of a name, synced. */
+static int write_text(const pdt_database *database, const char *name, const pdti_buffer *text) {
+  int file = pdti_make_in(database, database->dir, name, O_WRONLY | O_TRUNC);
+  return file < 0 ? PDT_IO : pdti_close_synced(file, pdti_write_to(file, text->at, text->len));
 }
 
 int pdti_write_types(pdt_database *database, const pdti_member *entry) {
-  char name[FILE_NAME], text[(PDT_MAX_COLUMNS + 1) * LINE];
+  char name[FILE_NAME];
+  pdti_buffer text = {NULL, 0, 0};
   name_types(name, entry->number);
-  size_t len = put_types(entry->table, text);
-  if (len == END) return PDT_OK; /* of a new table, of which no other is there */
-  int file = pdti_make_in(database, database->dir, name, O_WRONLY | O_TRUNC);
-  return file < 0 ? PDT_IO : pdti_close_synced(file, pdti_write_to(file, text, len));
+  int code = put_types(entry->table, &text);
+  if (!code && text.len > END) code = write_text(database, name, &text); /* of a new table, of which no other is there */
+  int why = errno;
+  free(text.at);
+  errno = why;
+  return code;
 }
 
 /* Writes it anew for a table that is there: one or the other file is there after a crash. */
 static int rewrite_types(pdt_database *database, const pdti_member *entry) {
-  char name[FILE_NAME], text[(PDT_MAX_COLUMNS + 1) * LINE];
+  char name[FILE_NAME];
+  pdti_buffer text = {NULL, 0, 0};
   name_types(name, entry->number);
-  size_t len = put_types(entry->table, text);
-  int file = pdti_make_in(database, database->dir, "types-new", O_WRONLY | O_TRUNC);
-  int code = file < 0 ? PDT_IO : pdti_close_synced(file, pdti_write_to(file, text, len));
+  int code = put_types(entry->table, &text);
+  if (code) return code;
+  code = write_text(database, "types-new", &text);
   if (!code && renameat(database->dir, "types-new", database->dir, name)) code = PDT_IO;
   if (code) pdti_remove_in(database->dir, "types-new");
-  return code ? code : pdti_sync_in(database->dir);
+  if (!code) code = pdti_sync_in(database->dir);
+  int why = errno;
+  free(text.at);
+  errno = why;
+  return code;
 }
 
-/* Takes a line of the text, and answers where the next one begins; null where it isn't as it is written. */
-static const char *take_line(pdt_table *table, const char *at) {
-  size_t column = 0;
-  int digits = 0;
-  for (; *at >= '0' && *at <= '9' && digits < 3; at++, digits++) column = 10 * column + (size_t)(*at - '0');
-  const char *end = strchr(at, '\n');
-  if (!digits || *at++ != ' ' || !end || end - at >= PDTI_FORMAT_BYTES || end <= at) return NULL;
-  char format[PDTI_FORMAT_BYTES];
-  memcpy(format, at, (size_t)(end - at));
-  format[end - at] = 0;
-  if (!pdti_may_declare(table, column, format)) return NULL;
-  strcpy(table->declared[column], format);
-  return end + 1;
-}
-
-static int take_types(pdt_table *table, pdti_buffer *bytes) {
-  if (bytes->len < END || pdti_reserve(bytes, 1)) return bytes->len < END ? PDT_CORRUPT : PDT_NOMEM;
-  char *text = (char *)bytes->at, last[END + 1];
-  size_t len = bytes->len - END;
-  snprintf(last, sizeof last, "end %08" PRIx32 "\n", check_of(text, len));
-  if (memcmp(text + len, last, END) || memchr(text, 0, len)) return PDT_CORRUPT;
-  text[len] = 0;
-  const char *at = text;
-  while (at && *at) at = take_line(table, at);
-  return at ? PDT_OK : PDT_CORRUPT;
+/* Takes the formats that the bytes of a file say, each of which its column has to go out as. */
+static int take_types(pdt_table *table, const pdti_buffer *bytes) {
+  for (size_t column = 0; column < table->width; column++) {
+    char format[PDTI_FORMAT_BYTES] = "";
+    size_t len = 0;
+    int code = (int)pdtr_types_read(bytes_at(bytes->at, bytes->len), bytes->len, table->width, column, (uint8_t *)format, sizeof format - 1,
+                                    &len);
+    if (code) return code;
+    if (len && !pdti_may_declare(table, column, format)) return PDT_CORRUPT;
+    strcpy(table->declared[column], format);
+  }
+  return PDT_OK;
 }
 
 int pdti_read_types(pdt_database *database, pdti_member *entry, char *file) {

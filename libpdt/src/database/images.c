@@ -5,9 +5,7 @@
 #include <stdio.h>
 #include <sys/stat.h>
 
-static void folder_of(char *name, uint64_t member, uint64_t folder) {
-  snprintf(name, FILE_NAME, "image-%llu-%llu", (unsigned long long)member, (unsigned long long)folder);
-}
+static void folder_of(char *name, uint64_t member, uint64_t folder) { pdti_name_file(name, PDTI_IMAGE, member, folder); }
 
 /* The name of a file in it: the header's where column is negative. */
 static void file_of(char *name, int column) {
@@ -23,14 +21,14 @@ static void file_of(char *name, int column) {
 /* A file that is written, and what is known of it so far. */
 typedef struct {
   int file;
-  pdti_file_mark mark;
+  pdti_manifest_mark mark;
 } pdti_marked_file;
 
 static int put_marked(void *context, size_t column, const uint8_t *bytes, size_t len) {
   pdti_marked_file *into = context;
   (void)column;
   into->mark.check = pdtr_check(into->mark.check, bytes_at(bytes, len), len);
-  into->mark.len += len;
+  into->mark.size += len;
   return pdti_write_to(into->file, bytes, len);
 }
 
@@ -44,7 +42,7 @@ typedef struct {
 } pdti_writer;
 
 /* Writes one file of an image, synced. */
-static int write_one(const pdti_writer *of, int column, pdti_file_mark *mark) {
+static int write_one(const pdti_writer *of, int column, pdti_manifest_mark *mark) {
   char name[FILE_NAME];
   file_of(name, column);
   pdti_marked_file into = {pdti_make_in(of->database, of->dir, name, O_WRONLY | O_EXCL), {0, (uint32_t)CHECK_SEED}};
@@ -83,6 +81,7 @@ void pdti_remove_image(pdt_database *database, uint64_t member, uint64_t folder)
   char name[FILE_NAME], file[2 * FILE_NAME];
   int why = errno;
   folder_of(name, member, folder);
+  if (!*name) return; /* no table has this number */
   for (int column = -1; column < PDT_MAX_COLUMNS; column++) {
     char one[FILE_NAME];
     file_of(one, column);
@@ -96,14 +95,13 @@ void pdti_remove_image(pdt_database *database, uint64_t member, uint64_t folder)
 /* ---- reading */
 
 /* Reads a file, and tests its length and its check. */
-static int read_marked(int dir, const char *folder, int column, const pdti_file_mark *mark, pdti_buffer *into, char *file) {
+static int read_marked(int dir, const char *folder, int column, const pdti_manifest_mark *mark, pdti_buffer *into, char *file) {
   char name[FILE_NAME];
   file_of(name, column);
   snprintf(file, FILE_NAME, "%.40s/%.20s", folder, name);
   int code = pdti_read_in(dir, file, into);
   if (code) return code == PDT_MISSING ? PDT_INCOMPLETE : code;
-  bool is_whole = into->len == mark->len && pdtr_check((uint32_t)CHECK_SEED, bytes_at(into->at, into->len), into->len) == mark->check;
-  return is_whole ? PDT_OK : PDT_CORRUPT;
+  return pdtr_has_mark(mark->size, mark->check, bytes_at(into->at, into->len), into->len) ? PDT_OK : PDT_CORRUPT;
 }
 
 int pdti_open_image(pdt_database *database, pdti_member *entry, uint64_t base, const pdti_buffer *frames, pdti_reopened *found,

@@ -53,12 +53,9 @@ static int read_table(pdt_database *database, pdti_run_files *run, char *file) {
   return code;
 }
 
-/* One of another version, whose check isn't right, is damaged. */
 static int read_header(const pdti_buffer *bytes, pdti_journal_header *header, const char *name, char *file) {
   snprintf(file, FILE_NAME, "%s", name);
-  int code = (int)pdtr_journal_read(bytes_at(bytes->at, bytes->len), bytes->len, header);
-  if (code != PDTI_UNKNOWN_VERSION) return code;
-  return pdti_is_newer_header(bytes) ? PDT_NEWER_FORMAT : PDT_CORRUPT;
+  return (int)pdtr_journal_read(bytes_at(bytes->at, bytes->len), bytes->len, header);
 }
 
 /* Reads all of it. *file is the one that a code is about. */
@@ -142,8 +139,8 @@ static void count_journal(void *context, const char *name, uint64_t seq, uint64_
 
 static int clear_leftovers(pdt_database *database) {
   pdti_leftovers found = {database->dir, false, 0};
-  int code = pdti_names(database->dir, "image-", count_image, &found);
-  if (!code) code = pdti_names(database->dir, "journal-", count_journal, &found);
+  int code = pdti_names(database->dir, PDTI_IMAGE, count_image, &found);
+  if (!code) code = pdti_names(database->dir, PDTI_JOURNAL, count_journal, &found);
   if (code) return code;
   if (found.others) return PDT_INCOMPLETE;
   if (found.has_image) pdti_remove_image(database, TABLE, 1);

@@ -372,7 +372,7 @@ int pdti_flush(pdt_database *database, bool syncs) {
 
 /* ---- files */
 
-void pdti_name_journal(char *name, uint64_t seq) { snprintf(name, FILE_NAME, "journal-%llu", (unsigned long long)seq); }
+void pdti_name_journal(char *name, uint64_t seq) { pdti_name_file(name, PDTI_JOURNAL, seq, 0); }
 
 int pdti_turn_over(pdt_database *database) {
   pthread_mutex_lock(&database->turn_lock);

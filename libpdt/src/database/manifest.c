@@ -12,36 +12,17 @@
 #include "database.h"
 
 #include <fcntl.h>
-#include <inttypes.h>
-#include <stdarg.h>
 #include <stdio.h>
 
-enum { LINE = 256, VERSION = 1 };
+/* ---- writing: the exports spell what they are given, or refuse it */
 
-static uint32_t check_of(const void *bytes, size_t len) { return pdtr_check((uint32_t)CHECK_SEED, bytes_at(bytes, len), len); }
-
-/* ---- writing */
-
-static int put_line(pdti_buffer *text, const char *form, ...) {
-  if (pdti_reserve(text, LINE)) return PDT_NOMEM;
-  va_list words;
-  va_start(words, form);
-  int len = vsnprintf((char *)text->at + text->len, LINE, form, words);
-  va_end(words);
-  text->len += (size_t)len;
-  return PDT_OK;
-}
-
-static int put_table(pdti_buffer *text, const pdti_member *entry) {
+static int add_table(pdti_handle *manifest, const pdti_member *entry) {
   const pdt_options *options = &entry->options;
   const pdti_table_image *image = &entry->image;
-  int code = put_line(text, "table %" PRIu32 " %" PRIu64 " %" PRIu64 " %zu %" PRIu64 " %d %zu %s\n", entry->number, image->number,
-                      image->folder, options->recent, options->row_limit, options->by_row, entry->width, entry->name);
-  for (size_t i = 0; i <= entry->width && !code; i++) {
-    const pdti_file_mark *mark = i ? &image->columns[i - 1] : &image->header;
-    code = put_line(text, "%" PRIu64 " %08" PRIx32 "\n", mark->len, mark->check);
-  }
-  return code;
+  const pdti_manifest_line line = {image->number, image->folder, options->recent, options->row_limit,
+                                   entry->width,  entry->number, options->by_row};
+  return (int)pdtr_manifest_add(manifest, &line, (const uint8_t *)entry->name, strlen(entry->name), &image->header, image->columns,
+                                entry->width);
 }
 
 /* The commits that all images have. */
@@ -60,15 +41,26 @@ static uint64_t durable_number(pdt_database *database, uint64_t number) {
   return durable > number ? durable : number;
 }
 
+/* Adds the tables, and one more where it isn't null. */
+static int add_tables(const pdt_database *database, pdti_handle *manifest, const pdti_member *added) {
+  for (size_t i = 0; i < database->count; i++) {
+    int code = add_table(manifest, database->members[i]);
+    if (code) return code;
+  }
+  return added ? add_table(manifest, added) : PDT_OK;
+}
+
 static int put_manifest(pdt_database *database, uint64_t number, const pdti_member *added, pdti_buffer *text) {
+  pdti_handle manifest = {NULL}, bytes = {NULL};
   uint64_t first = pdti_first_wanted(database, oldest_image(database, number, added));
   if (!first) return PDT_INCOMPLETE;
-  int code = put_line(text, "narthexmace 1\ndatabase %016" PRIx64 " %016" PRIx64 "\n", database->name, database->salt);
-  if (!code) code = put_line(text, "at %" PRIu64 " %" PRIu64 "\n", number, first);
-  if (!code) code = put_line(text, "next %" PRIu32 " %" PRIu64 "\n", database->next_table, database->next_folder);
-  for (size_t i = 0; i < database->count && !code; i++) code = put_table(text, database->members[i]);
-  if (!code && added) code = put_table(text, added);
-  return code ? code : put_line(text, "end %08" PRIx32 "\n", check_of(text->at, text->len));
+  const pdti_manifest_head head = {database->name, database->salt, number, first, database->next_folder, database->next_table};
+  int code = (int)pdtr_manifest_new(&head, &manifest);
+  if (code) return code;
+  code = add_tables(database, &manifest, added);
+  if (!code) code = (int)pdtr_manifest_bytes(&manifest, &bytes);
+  pdtr_manifest_close(&manifest);
+  return code ? code : pdti_take_bytes(&bytes, text);
 }
 
 int pdti_write_manifest(pdt_database *database, uint64_t number, const pdti_member *added, bool *in_doubt) {
@@ -101,7 +93,7 @@ int pdti_note_durable(pdt_database *database) {
   return durable > database->noted ? pdti_write_manifest(database, durable, NULL, NULL) : PDT_OK;
 }
 
-/* ---- reading: the exports say what the bytes spell, and that other bytes are damaged */
+/* ---- reading: the exports say what the bytes spell, and that other bytes are damaged or of a later version */
 
 /* A table of a manifest that was read: its line and the marks of its files. */
 static void take_table(pdti_handle *manifest, size_t table, pdti_member *entry) {
@@ -114,9 +106,8 @@ static void take_table(pdti_handle *manifest, size_t table, pdti_member *entry) 
   entry->options = (pdt_options){sizeof entry->options, (size_t)line.recent, line.limit, line.by_row};
   entry->width = (size_t)line.width;
   for (size_t file = 0; file <= entry->width; file++) {
-    pdti_manifest_mark mark = {0};
-    (void)pdtr_manifest_mark(manifest, table, file, &mark);
-    *(file ? &entry->image.columns[file - 1] : &entry->image.header) = (pdti_file_mark){mark.size, mark.check};
+    pdti_manifest_mark *mark = file ? &entry->image.columns[file - 1] : &entry->image.header;
+    (void)pdtr_manifest_mark(manifest, table, file, mark);
   }
 }
 
@@ -135,29 +126,11 @@ static int take_tables(pdt_database *database, pdti_handle *manifest, size_t cou
   return PDT_OK;
 }
 
-/* Whether bytes that spell no manifest of this version are one of a later: the last line, with the check of all before it, and the version
-   in the first are those of every version. */
-static bool is_newer(const pdti_buffer *text) {
-  static const char word[] = "narthexmace ";
-  char end[16], first[32] = "";
-  size_t len = (size_t)snprintf(end, sizeof end, "end %08" PRIx32 "\n", 0), begins = sizeof word - 1;
-  if (text->len < len) return false;
-  size_t body = text->len - len;
-  snprintf(end, sizeof end, "end %08" PRIx32 "\n", check_of(text->at, body));
-  memcpy(first, text->at, body < sizeof first ? body : sizeof first - 1);
-  size_t digits = strspn(first + begins, "0123456789");
-  if (memcmp(text->at + body, end, len) || strncmp(first, word, begins)) return false;
-  if (!digits || digits > 10 || first[begins] == '0' || first[begins + digits] != '\n') return false;
-  uint64_t version = strtoull(first + begins, NULL, 10);
-  return version > VERSION && version <= UINT32_MAX;
-}
-
 int pdti_read_manifest(pdt_database *database, uint64_t *number, uint64_t *first) {
   pdti_buffer bytes = {NULL, 0, 0};
   pdti_handle manifest = {NULL};
   int code = pdti_read_in(database->dir, "manifest", &bytes);
   if (!code) code = (int)pdtr_manifest_read(bytes_at(bytes.at, bytes.len), bytes.len, &manifest);
-  if (code == PDT_CORRUPT && is_newer(&bytes)) code = PDT_NEWER_FORMAT;
   free(bytes.at);
   if (code) return code;
   pdti_manifest_head head = {0};
@@ -198,6 +171,6 @@ static void remove_types(void *context, const char *name, uint64_t member, uint6
 }
 
 void pdti_remove_images(pdt_database *database) {
-  (void)pdti_names(database->dir, "image-", remove_unnamed, database);
-  (void)pdti_names(database->dir, "types-", remove_types, database);
+  (void)pdti_names(database->dir, PDTI_IMAGE, remove_unnamed, database);
+  (void)pdti_names(database->dir, PDTI_TYPES, remove_types, database);
 }

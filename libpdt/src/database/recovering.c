@@ -130,9 +130,9 @@ int pdti_begin_journal(pdt_database *database) {
 static int make_new(pdt_database *database) {
   pdti_leftovers found = {database->dir, 0};
   struct stat about;
-  int code = pdti_names(database->dir, "image-", count_image, &found);
-  if (!code) code = pdti_names(database->dir, "types-", count_image, &found);
-  if (!code) code = pdti_names(database->dir, "journal-", count_journal, &found);
+  int code = pdti_names(database->dir, PDTI_IMAGE, count_image, &found);
+  if (!code) code = pdti_names(database->dir, PDTI_TYPES, count_image, &found);
+  if (!code) code = pdti_names(database->dir, PDTI_JOURNAL, count_journal, &found);
   if (code) return code;
   if (found.count) return PDT_INCOMPLETE;
   database->next_table = database->next_folder = 1;
@@ -159,8 +159,8 @@ typedef struct {
 static void list_file(void *context, const char *name, uint64_t seq, uint64_t second) {
   pdti_journal_read *read = context;
   pdt_database *database = read->database;
-  (void)name;
-  if (second || seq < read->first) return;
+  (void)name, (void)second;
+  if (seq < read->first) return;
   if (database->file_count == JOURNAL_FILES) {
     read->is_full = true;
     return;
@@ -168,17 +168,6 @@ static void list_file(void *context, const char *name, uint64_t seq, uint64_t se
   size_t at = database->file_count++;
   for (; at && database->files[at - 1].seq > seq; at--) database->files[at] = database->files[at - 1];
   database->files[at] = (pdti_journal_file){.seq = seq};
-}
-
-/* Whether bytes begin with a header of a later version, by which nothing of them is damaged: each version has its check in the same
-   place. */
-bool pdti_is_newer_header(const pdti_buffer *bytes) {
-  enum { CHECKED = JOURNAL_HEADER - 4 };
-  pdti_journal_header header;
-  if (bytes->len < JOURNAL_HEADER || pdtr_journal_read(bytes->at, bytes->len, &header) != PDTI_UNKNOWN_VERSION) return false;
-  const uint8_t *last = bytes->at + CHECKED;
-  uint32_t check = (uint32_t)last[0] << 24 | (uint32_t)last[1] << 16 | (uint32_t)last[2] << 8 | last[3];
-  return check == pdtr_check((uint32_t)CHECK_SEED, bytes->at, CHECKED);
 }
 
 /* Reads a file after those before it. What has no header is the end of a journal, or damaged: what it says tells which. */
@@ -191,9 +180,10 @@ static int read_file(pdti_journal_read *read, size_t at, char *name) {
   if (code == PDT_MISSING) code = PDT_INCOMPLETE;
   if (!code) {
     pdti_journal_header header = {0, 0, 0};
-    bool is_headed = !pdtr_journal_read(bytes_at(bytes.at, bytes.len), bytes.len, &header);
+    uint32_t said = pdtr_journal_read(bytes_at(bytes.at, bytes.len), bytes.len, &header);
+    bool is_headed = !said;
     size_t front = is_headed ? JOURNAL_HEADER : 0;
-    if (!is_headed && pdti_is_newer_header(&bytes)) code = PDT_NEWER_FORMAT;
+    if (said == PDT_NEWER_FORMAT) code = PDT_NEWER_FORMAT;
     if (is_headed && (header.salt != read->database->salt || header.store != read->database->name)) code = PDT_MISMATCH;
     if (!code) code = pdti_reserve(&read->frames, bytes.len + 1);
     if (!code) {
@@ -212,7 +202,7 @@ static int read_file(pdti_journal_read *read, size_t at, char *name) {
 static int read_journal(pdti_journal_read *read, pdt_report *report) {
   pdt_database *database = read->database;
   database->file_count = 0;
-  int listed = pdti_names(database->dir, "journal-", list_file, read);
+  int listed = pdti_names(database->dir, PDTI_JOURNAL, list_file, read);
   if (listed) return listed;
   if (read->is_full || !database->file_count) return about(report, "journal", PDT_INCOMPLETE);
   for (size_t i = 0; i < database->file_count; i++) {
@@ -419,6 +409,6 @@ int pdti_open_folder(pdt_database *database, pdt_report *report) {
   if (code || database->options.read_only) return code;
   pdti_remove_images(database);
   pdti_remove_run(database);
-  (void)pdti_names(database->dir, "journal-", remove_old_journal, database);
+  (void)pdti_names(database->dir, PDTI_JOURNAL, remove_old_journal, database);
   return PDT_OK;
 }

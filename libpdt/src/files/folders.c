@@ -109,13 +109,18 @@ int pdti_read_in(int dir, const char *name, pdti_buffer *into) {
   return code;
 }
 
-/* A number in decimal without a zero before it. */
-static bool take_number(const char **at, uint64_t *number) {
-  const char *from = *at;
-  uint64_t value = 0;
-  while (**at >= '0' && **at <= '9' && *at - from < 19) value = value * 10 + (uint64_t)(*(*at)++ - '0');
-  *number = value;
-  return *at > from && (*from != '0' || *at == from + 1);
+int pdti_take_bytes(pdti_handle *bytes, pdti_buffer *into) {
+  size_t len = pdtr_image_len(bytes, 0);
+  int code = pdti_reserve(into, len);
+  if (!code) into->len += pdtr_image_read(bytes, 0, 0, into->at + into->len, len);
+  pdtr_image_close(bytes);
+  return code;
+}
+
+/* ---- names */
+
+void pdti_name_file(char *name, uint32_t kind, uint64_t first, uint64_t second) {
+  if (!pdtr_file_name(kind, first, second, (uint8_t *)name, FILE_NAME)) *name = 0;
 }
 
 /* The next name, or null at the end and where reading fails: only errno tells which. */
@@ -124,7 +129,7 @@ static struct dirent *next_name(DIR *names) {
   return readdir(names);
 }
 
-int pdti_names(int dir, const char *front, pdti_each each, void *context) {
+int pdti_names(int dir, uint32_t kind, pdti_each each, void *context) {
   int copy = pdti_open_in(dir, ".", O_RDONLY | O_DIRECTORY);
   if (copy < 0) return PDT_IO;
   DIR *names = fdopendir(copy);
@@ -134,13 +139,10 @@ int pdti_names(int dir, const char *front, pdti_each each, void *context) {
     errno = why;
     return why == ENOMEM ? PDT_NOMEM : PDT_IO;
   }
-  size_t len = strlen(front);
   for (struct dirent *name; (name = next_name(names));) {
-    const char *at = name->d_name + len;
-    uint64_t first = 0, second = 0;
-    if (strncmp(name->d_name, front, len) || !take_number(&at, &first)) continue;
-    if (*at == '-' && (at++, !take_number(&at, &second))) continue;
-    if (!*at) each(context, name->d_name, first, second);
+    pdti_file_name file = {0, 0, 0};
+    uint32_t code = pdtr_file_read((const uint8_t *)name->d_name, strlen(name->d_name) + 1, &file);
+    if (!code && file.kind == kind) each(context, name->d_name, file.first, file.second);
   }
   int why = errno;
   closedir(names);

@@ -1,5 +1,5 @@
 //! The bytes that store a table, which C writes to files.
-ghost use Rattle.std.specs.Prelude.{◌≡◌, ◌-◌, min, take, drop, length, IsSome, IfSome, None};
+ghost use Rattle.std.specs.Prelude.{◌≡◌, ◌-◌, min, take, drop, length, IsSome, IfOk, IfSome, None};
 ghost use Rattle.pdt_c.specs.Stored.{bytes_at};
 
 use crate::byte_column::{ByteColumn, Slot};
@@ -66,6 +66,15 @@ fn columns_of(alloc: Global, slots: &[Slot]) -> Result<Box<Columns>, NoMemory> {
         bytes.push(column)?;
     }
     Ok(Box::new(alloc, Columns { bytes })?)
+}
+
+/// The bytes of one column.
+pub(crate) fn one_column(alloc: Global, bytes: Vec<u8>) -> Result<Box<Columns>, NoMemory>
+    ensures { IfOk result (λ columns. bytes_at columns.value 0 ≡ bytes.items) }
+{
+    let mut columns = Vec::new(alloc);
+    columns.push(bytes)?;
+    Ok(Box::new(alloc, Columns { bytes: columns })?)
 }
 
 /// How many bytes a column has.

@@ -11,7 +11,8 @@ ghost use Rattle.pdt_c.specs.Journals.{IsLong, IsPartOf, IsToldHeader};
 ghost use Rattle.pdt_c.specs.Stored.{bytes_at};
 ghost use Rattle.pdt_c.specs.declared.codes.TheConstants.{DONE, TOO_LONG};
 
-use crate::codes::{DONE, code_of_header, code_of_spelling};
+use crate::calls::image_bytes::one_column;
+use crate::codes::{DONE, NEWER_FORMAT, ROT, code_of_spelling};
 use crate::handles::decision::Decision;
 use crate::handles::image::{Columns, Image};
 use crate::handles::store::Store;
@@ -21,8 +22,9 @@ use codec::{SpellFault, commit_entries_fit, write_part};
 use delta::DeltaTree;
 use journal::{Frame, Header, crc_from, frame_head, read_header, seed_of, spelt_header};
 use manager::{Manager, Prepared};
+use segments::is_later_header;
 use std::alloc::Global;
-use values::Schema;
+use values::{NoMemory, Schema};
 
 /// How many bytes a journal's header has.
 const HEADER_BYTES: usize = 36;
@@ -71,11 +73,11 @@ pub extern "C" fn pdtr_journal_header(salt: u64, store: u64, base: u64, out: &mu
     true
 }
 
-/// Gives what the header says that bytes begin with, or why they begin with none: `UNKNOWN_VERSION` where the version of the format is
-/// another one, so that its checks aren't known either, and `ROT` for every other fault. Takes no memory.
+/// Gives what the header says that bytes begin with, or why they begin with none: `NEWER_FORMAT` where it is one of a later version whose
+/// check is right, and `ROT` for every other fault. Takes no memory.
 #[unsafe(no_mangle)]
 pub extern "C" fn pdtr_journal_read(bytes: &[u8], header: &mut JournalHeader) -> u32
-    ensures { IsToldHeader (header_in bytes.now) result header.old header.new }
+    ensures { IsToldHeader bytes.now (header_in bytes.now) result header.old header.new }
 {
     match read_header(bytes) {
         Ok((found, _)) => {
@@ -86,7 +88,8 @@ pub extern "C" fn pdtr_journal_read(bytes: &[u8], header: &mut JournalHeader) ->
             };
             DONE
         }
-        Err(fault) => code_of_header(fault),
+        Err(_) if is_later_header(bytes) => NEWER_FORMAT,
+        Err(_) => ROT,
     }
 }
 
@@ -177,7 +180,7 @@ fn spell(
     let _begin = begun.txn.begin();
     match prepared.tree() {
         Some(tree) => part_of(alloc, manager.newest().schema(), table, tree),
-        None => one_column(alloc, Vec::new(alloc)),
+        None => spelt(alloc, Vec::new(alloc)),
     }
 }
 
@@ -194,15 +197,16 @@ fn part_of(
 {
     let mut bytes = Vec::new(alloc);
     write_part(schema, table, tree, &mut bytes)?;
-    one_column(alloc, bytes)
+    spelt(alloc, bytes)
 }
 
 /// The bytes of one column.
-fn one_column(alloc: Global, bytes: Vec<u8>) -> Result<Box<Columns>, SpellFault>
+fn spelt(alloc: Global, bytes: Vec<u8>) -> Result<Box<Columns>, SpellFault>
     ensures ok { IfOk result (λ columns. bytes_at columns.value 0 ≡ bytes.items) }
     ensures err { result ≢ Err spell_fault.TooLong }
 {
-    let mut columns = Vec::new(alloc);
-    columns.push(bytes)?;
-    Ok(Box::new(alloc, Columns { bytes: columns })?)
+    match one_column(alloc, bytes) {
+        Ok(columns) => Ok(columns),
+        Err(NoMemory) => Err(SpellFault::NoMemory),
+    }
 }

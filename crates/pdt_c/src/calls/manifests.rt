@@ -1,15 +1,18 @@
 //! The manifest of a database, read, and what it says of each table.
-ghost use Rattle.std.specs.Prelude.{◌≡◌, ◌≢◌, IfSome, IsSome, Some, None, length, map, slice_get};
+ghost use Rattle.std.specs.Prelude.{◌≡◌, ◌≢◌, ◌⊎◌, IfSome, IsSome, Some, None, length, map, slice_get};
 ghost use Rattle.manifest.specs.Manifest.{Fields, IsManifest, spelling};
+ghost use Rattle.manifest.specs.Version.{IsLater};
 ghost use Rattle.pdt_c.specs.Listed.{head_record, line_record, listed_now, mark_record, marks_of};
 ghost use Rattle.pdt_c.specs.Told.{IsPut};
-ghost use Rattle.pdt_c.specs.declared.codes.TheConstants.{DONE, MISSING, ROT};
+ghost use Rattle.segments.specs.Marks.{has_mark};
+ghost use Rattle.pdt_c.specs.declared.codes.TheConstants.{DONE, MISSING, NEWER_FORMAT, NO_MEMORY, ROT};
 
-use crate::codes::{DONE, MISSING, NO_MEMORY, ROT};
+use crate::codes::{DONE, MISSING, NEWER_FORMAT, NO_MEMORY, ROT};
 use crate::handles::listed;
 use crate::handles::listed::{LineRecord, Listed, ListedManifest, ListedTable};
 use crate::text_fault::put as put_bytes;
-use manifest::{FileMark, ManifestFault, ManifestHead, read_manifest};
+use manifest::{FileMark, ManifestFault, ManifestHead, is_later_manifest, read_manifest};
+use segments::has_mark;
 use std::alloc::Global;
 
 /// What a manifest says of the database.
@@ -32,7 +35,8 @@ pub struct MarkRecord {
     pub check: u32,
 }
 
-/// Reads the manifest that bytes spell into a handle that holds nothing. `ROT` where they are the spelling of none.
+/// Reads the manifest that bytes spell into a handle that holds nothing. Where they are the spelling of none: `NEWER_FORMAT` where they
+/// are a manifest of a later version, which has its check, and else `ROT`.
 #[unsafe(no_mangle)]
 pub extern "C" fn pdtr_manifest_read(alloc: Global, bytes: &[u8], manifest: &mut Listed) -> u32
     // What is read is spelt so.
@@ -42,9 +46,15 @@ pub extern "C" fn pdtr_manifest_read(alloc: Global, bytes: &[u8], manifest: &mut
 
     // What is spelt so isn't damaged.
     ensures rot { result ≡ ROT → (m : Fields) → IsManifest m → bytes.now ≢ spelling m }
+
+    // Exactly those of a later version are told as such, unless memory runs out.
+    ensures later { result ≡ NEWER_FORMAT → IsLater bytes.now }
+    ensures no_later { result ≡ ROT → IsLater bytes.now → ⊥ }
+    ensures code { (result ≡ DONE) ⊎ ((result ≡ ROT) ⊎ ((result ≡ NEWER_FORMAT) ⊎ (result ≡ NO_MEMORY))) }
 {
     let read = match read_manifest(alloc, bytes) {
         Ok(read) => read,
+        Err(ManifestFault::Damaged) if is_later_manifest(bytes) => return NEWER_FORMAT,
         Err(ManifestFault::Damaged) => return ROT,
         Err(ManifestFault::NoMemory) => return NO_MEMORY,
     };
@@ -58,6 +68,14 @@ pub extern "C" fn pdtr_manifest_read(alloc: Global, bytes: &[u8], manifest: &mut
         }
         Err(_) => NO_MEMORY,
     }
+}
+
+/// Whether the bytes of a file are as many as its mark says, and have its check. Takes no memory.
+#[unsafe(no_mangle)]
+pub extern "C" fn pdtr_has_mark(size: u64, check: u32, bytes: &[u8]) -> bool
+    ensures { result ≡ has_mark (record { size = size; check = check }) bytes.now }
+{
+    has_mark(&FileMark { size, check }, bytes)
 }
 
 /// Lets a manifest go.
