@@ -183,6 +183,8 @@ void pdti_remove_images(pdt_database *database);
 /* Opens a file, or makes it where there is none, by the database's mode. A link isn't followed, but of AT_FDCWD. */
 int pdti_open_in(int dir, const char *name, int how);
 int pdti_make_in(const pdt_database *database, int dir, const char *name, int how);
+/* Makes a file that is new, in place of one that has the name already. */
+int pdti_make_new(const pdt_database *database, int dir, const char *name, int how);
 mode_t pdti_folder_mode(mode_t mode); /* of a folder of files of a mode */
 int pdti_sync(int file);              /* the data, and how long it is */
 int pdti_sync_in(int dir);            /* the names */

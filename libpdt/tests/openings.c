@@ -1,5 +1,6 @@
 /* What an opening does to a folder: for reading alone nothing, after a clean close nothing either, and where it fails nothing that stays.
-   What it meets there that isn't its own: files of a later version, pipes and links under its names, files of the user's. Linked with
+   What it meets there that isn't its own: files of a later version, pipes and links under its names, files of the user's; and two names of
+   one file. Linked with
    --wrap of the calls that write. */
 #define _DEFAULT_SOURCE
 #include "events.h"
@@ -408,6 +409,45 @@ static void images_of_changed(void) {
   is("the changed one has a new one", 1, image_of(1) > changed);
 }
 
+static void linked(const char *file, const char *other) {
+  char from[sizeof path];
+  snprintf(from, sizeof from, "%s", in(file));
+  is("link", 0, link(from, in(other)));
+}
+
+/* A crash may leave both names of a rename on one file: what is made under the one name, or fails to be, leaves what the other has. */
+static void two_names_of_a_file(void) {
+  char name[40];
+  for (int call = 1; call <= 5; call++) {
+    snprintf(name, sizeof name, "manifest twice %d", call);
+    make(name, 4);
+    linked("manifest", "manifest-new");
+    pdt_database *database = opened(&quiet);
+    fails_at = written + call;
+    int code = pdt_table_drop(database, "b");
+    fails_at = 0;
+    closed(database);
+    database = opened(&quiet);
+    pdt_table *b = NULL;
+    is("b after a drop", code ? PDT_OK : PDT_MISSING, pdt_table_open(database, "b", &b));
+    is("a", 3, qty(table_named(database, "a"), 1));
+    is("one name is left", -1, length("manifest-new"));
+    closed(database);
+    snprintf(name, sizeof name, "journal twice %d", call);
+    make(name, 4);
+    append("journal-1", "torn", 4);
+    linked("journal-1", "journal-new");
+    fails_at = written + call;
+    code = try_open(&quiet, &database);
+    fails_at = 0;
+    if (!code) closed(database);
+    database = opened(&quiet);
+    is("a", 3, qty(table_named(database, "a"), 1));
+    is("b", 4, qty(table_named(database, "b"), 2));
+    closed(database);
+  }
+}
+
 int main(int argc, char **argv) {
   if (argc < 2) return 2;
   room = argv[1];
@@ -421,5 +461,6 @@ int main(int argc, char **argv) {
   of_the_user();
   modes();
   images_of_changed();
+  two_names_of_a_file();
   return failures ? 1 : 0;
 }

@@ -71,7 +71,7 @@ static int put_types(const pdt_table *table, pdti_buffer *text) {
 
 /* Writes it into a file of a name, synced. */
 static int write_text(const pdt_database *database, const char *name, const pdti_buffer *text) {
-  int file = pdti_make_in(database, database->dir, name, O_WRONLY | O_TRUNC);
+  int file = pdti_make_new(database, database->dir, name, O_WRONLY);
   return file < 0 ? PDT_IO : pdti_close_synced(file, pdti_write_to(file, text->at, text->len));
 }
 

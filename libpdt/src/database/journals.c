@@ -382,7 +382,7 @@ int pdti_turn_over(pdt_database *database) {
   if (!is_due) return PDT_OK;
   char name[FILE_NAME];
   pdti_name_journal(name, seq);
-  int file = pdti_make_in(database, database->dir, name, O_WRONLY | O_TRUNC | O_APPEND);
+  int file = pdti_make_new(database, database->dir, name, O_WRONLY | O_APPEND);
   if (file < 0) return PDT_IO;
   if (pdti_sync_in(database->dir)) { /* an empty file says nothing, also where it stays */
     int why = errno;

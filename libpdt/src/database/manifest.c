@@ -73,7 +73,7 @@ int pdti_write_manifest(pdt_database *database, uint64_t number, const pdti_memb
   number = durable_number(database, number);
   int code = put_manifest(database, number, added, &text);
   if (!code) {
-    int file = pdti_make_in(database, database->dir, "manifest-new", O_WRONLY | O_TRUNC);
+    int file = pdti_make_new(database, database->dir, "manifest-new", O_WRONLY);
     code = file < 0 ? PDT_IO : pdti_close_synced(file, pdti_write_to(file, text.at, text.len));
   }
   bool is_written = !code;

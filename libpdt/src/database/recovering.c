@@ -110,7 +110,7 @@ static int draw(uint64_t *number) {
 static int make_journal(pdt_database *database, uint64_t seq) {
   char name[FILE_NAME];
   pdti_name_journal(name, seq);
-  int file = pdti_make_in(database, database->dir, name, O_WRONLY | O_TRUNC | O_APPEND);
+  int file = pdti_make_new(database, database->dir, name, O_WRONLY | O_APPEND);
   if (file < 0) return PDT_IO;
   close(file);
   return pdti_sync_in(database->dir);
@@ -268,7 +268,7 @@ static int copy_frames(const pdti_journal_read *read, size_t at, size_t frames, 
   uint8_t header[JOURNAL_HEADER];
   size_t front = read->fronts[at];
   if (front && !pdtr_journal_header(database->salt, database->name, database->files[at].base, header, sizeof header)) return PDT_CORRUPT;
-  int file = pdti_make_in(database, database->dir, name, O_WRONLY | O_TRUNC);
+  int file = pdti_make_new(database, database->dir, name, O_WRONLY);
   if (file < 0) return PDT_IO;
   int code = pdti_write_to(file, header, front);
   return pdti_close_synced(file, code ? code : pdti_write_to(file, read->frames.at + read->starts[at], frames));

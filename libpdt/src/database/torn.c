@@ -34,7 +34,7 @@ bool pdti_has_frames(uint64_t salt, uint64_t newest, const uint8_t *torn, size_t
 
 int pdti_keep_torn(const pdt_database *database, uint64_t seq, const uint8_t *torn, size_t len, char *name) {
   snprintf(name, FILE_NAME, "torn-%llu", (unsigned long long)seq);
-  int file = pdti_make_in(database, database->dir, name, O_WRONLY | O_TRUNC);
+  int file = pdti_make_new(database, database->dir, name, O_WRONLY);
   if (file < 0) return PDT_IO;
   int code = pdti_close_synced(file, pdti_write_to(file, torn, len));
   if (code) pdti_remove_in(database->dir, name);

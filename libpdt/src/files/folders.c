@@ -37,6 +37,13 @@ int pdti_make_in(const pdt_database *database, int dir, const char *name, int ho
   return open_as(dir, name, how | O_CREAT, database->options.mode);
 }
 
+/* One of this name that a crash or an earlier try has left goes first, and isn't emptied: a crash may have left both names of a rename on
+   one file, which the other name still needs. */
+int pdti_make_new(const pdt_database *database, int dir, const char *name, int how) {
+  if (unlinkat(dir, name, 0) && errno != ENOENT) return -1;
+  return pdti_make_in(database, dir, name, how | O_EXCL);
+}
+
 /* Who may read a file may look into its folder. */
 mode_t pdti_folder_mode(mode_t mode) { return mode | (mode & 0444) >> 2; }
 
