@@ -281,6 +281,14 @@ impl<O: DurableOpening, S: ImageStore, D: JournalDevice> DurableShared<O, S, D> 
         Err(BeginFault::NotDurable)
     }
 
+    /// Another reader of the watermark, with what the client's has loaded. It may go to another thread.
+    pub fn reader(&self, client: &mut DurableSession<O>) -> WatermarkReader<O>
+        ensures reader { result ≡ client.old.reader }
+        ensures same { (client.new.session ≡ client.old.session) × (client.new.reader ≡ client.old.reader) }
+    {
+        client.reader.again(&self.watermark)
+    }
+
     /// Folds the Write-PDT into the Read-PDT, as `Shared::fold`. Returns what was published up to the folded version. Waits for the lock.
     ///
     /// # Errors

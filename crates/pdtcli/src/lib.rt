@@ -52,6 +52,7 @@ pub use queue::CallQueue;
 pub use recovery::{read_header, recover};
 pub use refusal::Refusal;
 pub use reply::{Reply, ReplyLine};
+pub use seat::{abort_session, read_in_session, write_in_session};
 pub use serial::{new_callers, run_serial, verb_of_call};
 pub use shown::ShownRows;
 pub use stable::StableTable;

@@ -33,10 +33,10 @@ pub(crate) fn serve<O: Opening, S: ImageStore, R: Wait>(
 {
     match call {
         Call::Begin => begin(session),
-        Call::Write(wanted) => write(session, wanted),
-        Call::Read(wanted) => read(alloc, session, wanted),
+        Call::Write(wanted) => write_in_session(session, wanted),
+        Call::Read(wanted) => read_in_session(alloc, session, wanted),
         Call::Commit => commit(rt, shared, session),
-        Call::Abort => abort(session),
+        Call::Abort => abort_session(session),
         Call::Fold => fold(rt, shared),
         Call::Checkpoint => checkpoint(rt, shared),
         Call::Cut => cut(rt, shared),
@@ -55,8 +55,8 @@ fn begin<O: Opening>(session: &mut Session<O>) -> Reply
     }
 }
 
-/// Writes in the open transaction.
-fn write<O: Opening>(session: &mut Session<O>, write: &Write) -> Reply
+/// Writes in the session's open transaction.
+pub fn write_in_session<O: Opening>(session: &mut Session<O>, write: &Write) -> Reply
     requires typed { IsTrue (is_typed_write O.opened.manager.schema write.now) }
     ensures { SeatStep O.opened.manager (call.Write write.now) session.old result session.new }
 {
@@ -84,8 +84,8 @@ fn write_copy<O: Opening>(
     session.write(copy_of(write)?)
 }
 
-/// Reads in the open transaction.
-fn read<O: Opening>(alloc: Global, session: &Session<O>, read: &Read) -> Reply
+/// Reads in the session's open transaction.
+pub fn read_in_session<O: Opening>(alloc: Global, session: &Session<O>, read: &Read) -> Reply
     requires { IsTrue (is_typed_read O.opened.manager.schema read.now) }
     ensures { SeatStep O.opened.manager (call.Read read.now) session.now result session.now }
 {
@@ -111,8 +111,8 @@ fn commit<O: Opening, S: ImageStore, R: Wait>(
     }
 }
 
-/// Ends the open transaction.
-fn abort<O: Opening>(session: &mut Session<O>) -> Reply
+/// Ends the session's open transaction.
+pub fn abort_session<O: Opening>(session: &mut Session<O>) -> Reply
     ensures { SeatStep O.opened.manager call.Abort session.old result session.new }
 {
     match session.abort() {
