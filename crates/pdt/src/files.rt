@@ -1,5 +1,5 @@
 //! The files of the program: what is read of them, and those of a store, which are made.
-use crate::journals::{Journaling, journals_over};
+use crate::journals::{NewJournals, journals_over};
 use devices::FileColumn;
 use pdtcli::{FileFault, Refusal, StoreFault};
 use std::alloc::Global;
@@ -22,7 +22,7 @@ pub(crate) struct StoreFiles {
     /// A device over each column's file.
     pub(crate) columns: Vec<Box<FileColumn>>,
     /// The journals, where the store has them.
-    pub(crate) journals: Option<Journaling>,
+    pub(crate) journals: Option<NewJournals>,
 }
 
 /// A file's bytes, or why they aren't there.

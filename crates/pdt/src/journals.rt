@@ -1,14 +1,18 @@
 //! The journals of a new store, in files.
 use crate::files::write_front;
 use journal::{Header, write_header};
-use journaled::Journals;
+use journaled_clients::NewCommits;
 use logging::{Appender, FileJournal};
 use pdtcli::Refusal;
 use std::fs::File;
 use std::random::RandomSource;
 
-/// The journals of a store in files.
-pub(crate) type Journaling = Journals<FileJournal>;
+/// The journals of a new store in files: that of its commits, and that of its images' marks.
+#[derive(Drop)]
+pub(crate) struct NewJournals {
+    pub(crate) commits: NewCommits<FileJournal>,
+    pub(crate) images: Appender<FileJournal>,
+}
 
 /// The number of the commit before the first frame of a new journal.
 const BASE: u64 = 0;
@@ -21,10 +25,11 @@ pub(crate) fn journals_over(
     rt: &HostRuntime,
     images: File,
     commits: File,
-) -> Result<Journaling, Refusal> {
+) -> Result<NewJournals, Refusal> {
     let store = drawn(rt)?;
-    Ok(Journals {
-        images: journal_over(rt, images, store)?,
+    let NewCommits { log, seed: _ } = journal_over(rt, images, store)?;
+    Ok(NewJournals {
+        images: log,
         commits: journal_over(rt, commits, store)?,
     })
 }
@@ -34,14 +39,18 @@ fn journal_over(
     rt: &HostRuntime,
     mut file: File,
     store: u64,
-) -> Result<Appender<FileJournal>, Refusal> {
+) -> Result<NewCommits<FileJournal>, Refusal> {
     let alloc = rt.alloc();
     let header = drawn_header(rt, store)?;
     let mut front = Vec::new(alloc);
     write_header(&header, &mut front)?;
     write_front(&mut file, front.as_slice())?;
     let device = FileJournal::new(file, front.as_slice());
-    Ok(Appender::new(alloc, device, header.seed()))
+    let seed = header.seed();
+    Ok(NewCommits {
+        log: Appender::new(alloc, device, seed),
+        seed,
+    })
 }
 
 /// A header of a new journal, whose salt is drawn.

@@ -2,7 +2,7 @@
 //! and ends with its status.
 #![tactic(auto)]
 
-ghost use Rattle.std.specs.Prelude.{◌≡◌, IfOk};
+ghost use Rattle.std.specs.Prelude.{◌≡◌, [], IfOk};
 ghost use Rattle.std.specs.Box.{box_value};
 
 mod database;
@@ -16,11 +16,12 @@ use crate::files::{
     StoreFiles, StorePaths, bytes_of, bytes_of_all, column_path, header_path, images_path,
     is_missing, journal_path, make_store, remove_store, store_paths, stored_bytes,
 };
-use crate::journals::Journaling;
+use crate::journals::NewJournals;
 use crate::refused::{Explained, Refused, explained_opening, explained_recovery};
 use crate::streams::hold_streams;
 use devices::{ColumnDevice, MemColumn, Store, StoreFault, have_failed};
-use journaled::{JournaledRun, StoreBytes, recover_journaled, run_journaled};
+use journaled::{JournaledRun, Journals, StoreBytes, recover_journaled, run_journaled};
+use journaled_clients::{ClientsRun, MarkedStore, NewCommits, run_journaled_on_threads};
 use pdtcli::{
     OpenOptions, Opened, Outcome, Refusal, Settings, ShowFault, open_texts, read_header,
     read_words, recover, run_opened, run_opened_on_threads, status_of, stored_header,
@@ -61,7 +62,7 @@ enum Storage<'p> {
     Memory,
     /// In the folder.
     Folder(&'p str),
-    /// In the folder, with a journal. The calls are made one after the other.
+    /// In the folder, with a journal.
     Journaled(&'p str),
 }
 
@@ -216,7 +217,8 @@ fn open_files(
     options: OpenOptions,
     explain: bool,
 ) -> Result<Opened, Refused>
-    ensures { IfOk result (λ opened. opened.script.schema ≡ opened.manager.schema) }
+    ensures script { IfOk result (λ opened. opened.script.schema ≡ opened.manager.schema) }
+    ensures new { IfOk result (λ opened. opened.manager.history ≡ []) }
 {
     let table = fs::read(rt, inputs.table);
     let script = fs::read(rt, inputs.script);
@@ -239,10 +241,11 @@ fn run<T: Threads + Wait + Sync>(
     storage: Storage<'_>,
     opened: Opened,
 ) -> Result<u8, Refusal>
-    requires { opened.script.schema ≡ opened.manager.schema }
+    requires script { opened.script.schema ≡ opened.manager.schema }
+    requires new { opened.manager.history ≡ [] }
 {
     match storage {
-        Storage::Journaled(dir) => run_with_journal(rt, dir, opened),
+        Storage::Journaled(dir) => run_with_journal(rt, turns, dir, opened),
         Storage::Folder(dir) => run_in_folder(rt, turns, dir, opened),
         Storage::Memory => run_in_memory(rt, turns, opened),
     }
@@ -294,10 +297,16 @@ fn run_in_folder<T: Threads + Wait + Sync>(
     answer
 }
 
-/// Runs what was opened over a store with a journal in the folder, call by call. Where the store isn't made, or its first image isn't
-/// stored, no file of it stays.
-fn run_with_journal(rt: &HostRuntime, dir: &str, opened: Opened) -> Result<u8, Refusal>
-    requires { opened.script.schema ≡ opened.manager.schema }
+/// Runs what was opened over a store with a journal in the folder. Where the store isn't made, or its first image isn't stored, no file of
+/// it stays.
+fn run_with_journal<T: Threads + Wait + Sync>(
+    rt: &HostRuntime,
+    turns: Turns<'_, T>,
+    dir: &str,
+    opened: Opened,
+) -> Result<u8, Refusal>
+    requires script { opened.script.schema ≡ opened.manager.schema }
+    requires new { opened.manager.history ≡ [] }
 {
     // As above.
     let mut devices: Vec<Box<dyn ColumnDevice + Send>> = Vec::with_capacity(
@@ -309,7 +318,7 @@ fn run_with_journal(rt: &HostRuntime, dir: &str, opened: Opened) -> Result<u8, R
         devices.push(column)?;
     }
     let answer = match files.journals {
-        Some(journals) => run_journaled_over(rt, opened, journals, devices),
+        Some(journals) => run_journaled_over(rt, turns, opened, journals, devices),
         None => Err(Refusal::CannotMake),
     };
     match &answer {
@@ -320,27 +329,86 @@ fn run_with_journal(rt: &HostRuntime, dir: &str, opened: Opened) -> Result<u8, R
 }
 
 /// Runs what was opened, over a store of these devices and journals.
-fn run_journaled_over(
+fn run_journaled_over<T: Threads + Wait + Sync>(
     rt: &HostRuntime,
+    turns: Turns<'_, T>,
     opened: Opened,
-    journals: Journaling,
+    journals: NewJournals,
     devices: Vec<Box<dyn ColumnDevice + Send>>,
 ) -> Result<u8, Refusal>
-    requires { opened.script.schema ≡ opened.manager.schema }
+    requires script { opened.script.schema ≡ opened.manager.schema }
+    requires new { opened.manager.history ≡ [] }
 {
     if have_failed(devices.as_slice()) {
         return Err(Refusal::Store(StoreFault::StoreFailed));
     }
-    let alloc = rt.alloc();
-    let store = Store::new(alloc, devices, opened.schema(), FIRST_GENERATION)?;
+    let store = Store::new(rt.alloc(), devices, opened.schema(), FIRST_GENERATION)?;
+    match turns {
+        Turns::OnThreads(starter) => run_clients_over(rt, starter, opened, journals, store),
+        Turns::InOrder => run_calls_over(rt, opened, journals, store),
+    }
+}
+
+/// Runs what was opened call by call, over a store with these journals.
+fn run_calls_over(
+    rt: &HostRuntime,
+    opened: Opened,
+    journals: NewJournals,
+    store: Store,
+) -> Result<u8, Refusal>
+    requires script { opened.script.schema ≡ opened.manager.schema }
+    requires store { store.schema ≡ opened.manager.schema }
+    requires next { store.next ≡ FIRST_GENERATION }
+{
+    let NewJournals { commits, images } = journals;
+    let NewCommits { log, seed: _ } = commits;
+    let journals = Journals {
+        commits: log,
+        images,
+    };
     let mut out = io::writer(rt);
-    let (status, run) = run_journaled(alloc, opened, journals, store, FIRST_GENERATION, &mut out)?;
+    let (status, run) = run_journaled(
+        rt.alloc(),
+        opened,
+        journals,
+        store,
+        FIRST_GENERATION,
+        &mut out,
+    )?;
     // As in a run without a journal.
     let JournaledRun {
         journaled,
         store: _store,
     } = run;
     mem::forget(journaled);
+    Ok(status)
+}
+
+/// Runs what was opened with each client's calls on a thread of its own, over a store with these journals.
+fn run_clients_over<T: Threads + Wait + Sync>(
+    rt: &HostRuntime,
+    starter: &T,
+    opened: Opened,
+    journals: NewJournals,
+    store: Store,
+) -> Result<u8, Refusal>
+    requires script { opened.script.schema ≡ opened.manager.schema }
+    requires new { opened.manager.history ≡ [] }
+    requires store { store.schema ≡ opened.manager.schema }
+    requires next { store.next ≡ FIRST_GENERATION }
+{
+    let NewJournals { commits, images } = journals;
+    let marked = MarkedStore::new(store, images, FIRST_GENERATION);
+    let ClientsRun {
+        manager,
+        status,
+        store: _store,
+        journal: _journal,
+        counts: _counts,
+        out: _out,
+    } = run_journaled_on_threads(starter, rt.alloc(), opened, commits, marked, io::writer(rt))?;
+    // As in a run without a journal.
+    mem::forget(manager);
     Ok(status)
 }
 

@@ -116,16 +116,16 @@ AreOf command word_of (Run table script threads store journal recent limit confl
 abbrev pub NamesFolder : Text → Type 0
 NamesFolder word = 0 < length word
 
--- a journal is asked for only beside a store, and not with threads
-abbrev pub HasPlace : Bool → Bool → Bool → Type 0
-HasPlace journal stored threads = journal ≡ true → (stored ≡ true) × (threads ≡ false)
+-- a journal is asked for only beside a store
+abbrev pub HasPlace : Bool → Bool → Type 0
+HasPlace journal stored = journal ≡ true → stored ≡ true
 
 -- the numbers are within their limits, a folder has a name, and a journal has a place
 abbrev pub IsWithinLimits : Settings → Type 0
 IsWithinLimits (Recover dir table explain) = NamesFolder dir.now
 IsWithinLimits (Run table script threads store journal recent limit conflicts explain) =
     (1 ≤ recent) × (recent ≤ MAX_RECENT_COMMITS) × (1 ≤ limit) × (limit ≤ MAX_ROWS) × IfSome store (λ dir. NamesFolder dir.now)
-    × HasPlace journal (is_some store) threads
+    × HasPlace journal (is_some store)
 
 -- the crate `clap` takes the words by the usage, and they say these settings
 pub record AreAsked (words : List Text) (settings : Settings) : Type 0 where

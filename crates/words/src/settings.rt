@@ -30,7 +30,7 @@ pub enum Settings<'a> {
         threads: bool,
         /// The folder that the store is made in, by a name that isn't empty; none where nothing is said.
         store: Option<&'a str>,
-        /// Whether the store has a journal. It is asked for only beside a store, and not with threads.
+        /// Whether the store has a journal. It is asked for only beside a store.
         journal: bool,
         /// How many commits may come between a transaction's begin and its commit, 1 to 65,536; 64 where nothing is said.
         recent: usize,
@@ -59,7 +59,7 @@ pub enum Settings<'a> {
 /// `clap`'s error, with its text, where the words are not of the usage
 /// `pdt run TABLE SCRIPT [--threads] [--store DIR] [--journal] [--recent N] [--limit N] [--conflicts column|row] [--explain]` or
 /// `pdt recover DIR [--table NAME] [--explain]`, where a DIR is empty, where an N is out of its range, where a journal is asked for
-/// without a store or with threads, where help is asked for, and where a growth is refused.
+/// without a store, where help is asked for, and where a growth is refused.
 pub fn read_words<'a>(alloc: Global, words: &'a [&'a str]) -> Result<Settings<'a>, Error>
     ensures said { IfOk result (AreOf (command_for (map (λ word. word.now) words.now)) (word_for (map (λ word. word.now) words.now))) }
     ensures within { IfOk result (λ settings. IsWithinLimits settings) }
@@ -85,7 +85,7 @@ fn settings_by<'a>(command: &mut Command<'a>, words: &'a [&'a str]) -> Result<Se
         Some(settings) => Ok(settings),
         None => Err(command.error(
             ErrorKind::ValueValidation,
-            "--conflicts is column or row; --journal stands beside --store, and not beside --threads",
+            "--conflicts is column or row; --journal stands beside --store",
         )?),
     }
 }
@@ -117,7 +117,7 @@ fn run_settings<'a>(run: &ArgMatches<'a>) -> Option<Settings<'a>>
     let script = run.get_str("script")?;
     let threads = flag_in(run.get_str("threads"))?;
     let store = store_in(run.get_str("store"))?;
-    let journal = journal_in(run.get_str("journal"), store.is_some(), threads)?;
+    let journal = journal_in(run.get_str("journal"), store.is_some())?;
     let most = MAX_RECENT_COMMITS as u64;
     let recent = count_in(run.get_str("recent"), RECENT_COMMITS, most)? as usize;
     let limit = count_in(run.get_str("limit"), MAX_ROWS, MAX_ROWS)?;
@@ -186,14 +186,14 @@ fn flag_in(word: Option<&str>) -> Option<bool>
 }
 
 /// Whether a journal is asked for, by the word for it; none where it is no such word, or a journal has no place.
-fn journal_in(word: Option<&str>, stored: bool, threads: bool) -> Option<bool>
+fn journal_in(word: Option<&str>, stored: bool) -> Option<bool>
     ensures said { IfSome result (λ given. option_map (λ w. w.now) word.entry ≡ Some (flag_word given)) }
-    ensures within { IfSome result (λ given. HasPlace given stored threads) }
+    ensures within { IfSome result (λ given. HasPlace given stored) }
     ensures none { IsNone result → (given : Bool) → option_map (λ w. w.now) word.entry ≡ Some (flag_word given)
-        → HasPlace given stored threads → ⊥ }
+        → HasPlace given stored → ⊥ }
 {
     let journal = flag_in(word)?;
-    if journal && (threads || !stored) {
+    if journal && !stored {
         return None;
     }
     Some(journal)

@@ -1,0 +1,3 @@
+mod ClientsLemmas
+mod TranscriptLemmas
+mod RunLemmas

@@ -1,0 +1,5 @@
+pub mod Marked
+pub mod Clients
+pub mod Transcripts
+pub mod Run
+pub mod Laws
