@@ -9,12 +9,12 @@ pub struct Draws {
 
 impl Draws {
     /// The sequence of this seed.
-    pub fn new(seed: u64) -> Draws {
+    pub(crate) fn new(seed: u64) -> Draws {
         Draws { state: seed }
     }
 
     /// The next number, below the bound.
-    pub fn below(&mut self, bound: u64) -> u64
+    pub(crate) fn below(&mut self, bound: u64) -> u64
         requires { 0 < bound }
         ensures { result < bound }
     {

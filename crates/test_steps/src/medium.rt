@@ -32,7 +32,7 @@ pub struct Medium {
 
 impl File {
     /// An empty file.
-    pub fn new(alloc: Global, seq: u64, name: Name) -> File {
+    pub(crate) fn new(alloc: Global, seq: u64, name: Name) -> File {
         File {
             seq,
             name,
@@ -44,21 +44,21 @@ impl File {
     }
 
     /// A write has failed that began behind so many bytes: some beginning of it is there.
-    pub fn fail_append(&mut self, at: usize, taken: usize) {
+    pub(crate) fn fail_append(&mut self, at: usize, taken: usize) {
         self.bytes.truncate(at.wrapping_add(taken));
         self.durable = self.durable.min(self.bytes.len());
         self.sound = false;
     }
 
     /// A sync is done that began when so many bytes were there.
-    pub fn synced(&mut self, upto: usize) {
+    pub(crate) fn synced(&mut self, upto: usize) {
         if self.sound {
             self.durable = self.durable.max(upto.min(self.bytes.len()));
         }
     }
 
     /// The bytes that a crash leaves: the durable ones, maybe more, and maybe others.
-    pub fn left(&self, alloc: Global, draws: &mut Draws) -> Result<Vec<u8>, Fail> {
+    pub(crate) fn left(&self, alloc: Global, draws: &mut Draws) -> Result<Vec<u8>, Fail> {
         let pending = self.bytes.len().saturating_sub(self.durable) as u64;
         let size = self.durable.wrapping_add(drawn_up_to(draws, pending));
         let others = drawn_up_to(draws, self.bytes.len().saturating_sub(size) as u64);
@@ -74,7 +74,7 @@ impl File {
 }
 
 /// A number that is at most this one: one of the two ends half of the time.
-pub fn drawn_up_to(draws: &mut Draws, most: u64) -> usize {
+pub(crate) fn drawn_up_to(draws: &mut Draws, most: u64) -> usize {
     match draws.below(4) {
         0 => 0,
         1 => most as usize,
@@ -84,7 +84,7 @@ pub fn drawn_up_to(draws: &mut Draws, most: u64) -> usize {
 
 impl Medium {
     /// The file of a number.
-    pub fn file(&mut self, seq: u64) -> Option<&mut File> {
+    pub(crate) fn file(&mut self, seq: u64) -> Option<&mut File> {
         let mut place = self.files.len();
         for at in 0..self.files.len() {
             if self.files[at].seq == seq {
@@ -95,7 +95,7 @@ impl Medium {
     }
 
     /// How many bytes the file of a number has.
-    pub fn length(&mut self, seq: u64) -> usize {
+    pub(crate) fn length(&mut self, seq: u64) -> usize {
         match self.file(seq) {
             Some(file) => file.bytes.len(),
             None => 0,
@@ -103,7 +103,7 @@ impl Medium {
     }
 
     /// A file is made, in place of an empty one that has the name.
-    pub fn create(&mut self, alloc: Global, seq: u64) -> Result<(), Fail> {
+    pub(crate) fn create(&mut self, alloc: Global, seq: u64) -> Result<(), Fail> {
         if self.file(seq).is_some() {
             return Ok(());
         }
@@ -112,7 +112,7 @@ impl Medium {
     }
 
     /// A sync of the folder is done.
-    pub fn sync_names(&mut self) {
+    pub(crate) fn sync_names(&mut self) {
         for file in &mut self.files {
             if file.name == Name::Pending {
                 file.name = Name::Durable;
