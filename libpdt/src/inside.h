@@ -54,6 +54,19 @@ typedef struct {
   uint64_t salt, store, base;
 } pdti_journal_header;
 
+/* a file of a journal: the number of the commit before its first frame, how many bytes of header stand before that, and how many bytes of
+   frames it has. The first two are 0 where it has no header */
+typedef struct {
+  uint64_t base, front, len;
+} pdti_segment;
+
+/* where a journal's files end: the place of the last one that has frames, how many bytes of those stay and how many are torn; or the commit
+   that is missing. And whether the file has to be written anew before anything is written behind it */
+typedef struct {
+  uint64_t place, kept, torn, missing;
+  bool is_anew;
+} pdti_journal_end;
+
 /* what was reopened on an image and a journal: how many bytes of the frames are whole, and the number of the newest commit; or the
    commit that a fault names, 0 where it names none */
 typedef struct {
@@ -183,6 +196,9 @@ extern void pdtr_unpin(pdti_handle *);
 extern uint32_t pdtr_check(uint32_t, const uint8_t *, size_t);
 extern bool pdtr_journal_header(uint64_t, uint64_t, uint64_t, uint8_t *, size_t);
 extern uint32_t pdtr_journal_read(const uint8_t *, size_t, pdti_journal_header *);
+extern uint32_t pdtr_journal_file(uint64_t, uint64_t, uint64_t, uint64_t, const uint8_t *, size_t, pdti_segment *);
+extern uint64_t pdtr_journal_base(uint64_t, const pdti_segment *, size_t);
+extern uint32_t pdtr_journal_end(const pdti_segment *, size_t, uint64_t, uint64_t, uint64_t, pdti_journal_end *);
 extern bool pdtr_frame_head(uint64_t, uint64_t, uint64_t, const uint8_t *, size_t, uint8_t *, size_t);
 extern uint32_t pdtr_part(pdti_handle *, pdti_handle *, pdti_handle *, uint32_t, pdti_handle *);
 extern uint32_t pdtr_reopen(const uint8_t *, size_t, const pdti_slice *, size_t, size_t, uint64_t, bool, uint64_t, uint32_t, uint64_t,

@@ -19,3 +19,4 @@ pub mod Filling
 pub mod Columns
 pub mod Listed
 pub mod FileNames
+pub mod JournalFiles

@@ -9,6 +9,7 @@ mod file_names;
 mod image_bytes;
 mod importing;
 mod ints;
+mod journal_files;
 mod journals;
 mod manifest_bytes;
 mod manifests;

@@ -3,3 +3,5 @@ pub mod Marks
 pub mod Naming
 pub mod Pieces
 pub mod Version
+pub mod Segment
+pub mod Ends

@@ -23,6 +23,26 @@ pub struct MissingFile {
     pub number: u64,
 }
 
+/// Why a file is none of a journal.
+#[derive(Clone, Copy, Debug, PartialEq, Eq)]
+pub enum SegmentFault {
+    /// Another file is the next after those before it.
+    NotInTurn,
+    /// Its header is another database's.
+    OtherStore,
+    /// Its header is of a later version of the format, and its check is right.
+    LaterVersion,
+}
+
+/// Why a journal in files doesn't go on.
+#[derive(Clone, Copy, Debug, PartialEq, Eq)]
+pub enum EndFault {
+    /// The commit after the newest one is damaged.
+    Damaged(u64),
+    /// It was durable, and no bytes are left of it.
+    Missing(u64),
+}
+
 /// Why no table is meant.
 #[derive(Clone, Copy, Debug, PartialEq, Eq)]
 pub enum NameFault {

@@ -8,16 +8,20 @@
 //! `values` for want of memory.
 #![tactic(auto)]
 
+mod ends;
 mod fault;
 mod listing;
 mod marks;
 mod naming;
 mod pieces;
+mod segment;
 mod version;
 
-pub use fault::{JoinFault, MissingFile, NameFault};
+pub use ends::{JournalEnd, base_before, find_end};
+pub use fault::{EndFault, JoinFault, MissingFile, NameFault, SegmentFault};
 pub use listing::last_file;
 pub use marks::{first_damaged, has_mark};
 pub use naming::table_named;
 pub use pieces::{Joined, Piece, are_behind, join_files, last_len};
+pub use segment::{Segment, read_segment};
 pub use version::is_later_header;

@@ -149,9 +149,8 @@ static int make_new(pdt_database *database) {
 typedef struct {
   pdt_database *database;
   pdti_buffer frames;
-  size_t starts[JOURNAL_FILES]; /* where those of each file begin */
-  size_t fronts[JOURNAL_FILES]; /* and how many bytes are before them in the file: its header, or none where it has no header */
-  uint64_t first;               /* the number of the first file that an image wants */
+  pdti_segment files[JOURNAL_FILES]; /* what each file is */
+  uint64_t first;                    /* the number of the first file that an image wants */
   bool is_full;
 } pdti_journal_read;
 
@@ -170,29 +169,23 @@ static void list_file(void *context, const char *name, uint64_t seq, uint64_t se
   database->files[at] = (pdti_journal_file){.seq = seq};
 }
 
-/* Reads a file after those before it. What has no header is the end of a journal, or damaged: what it says tells which. */
+/* Reads a file after those before it. */
 static int read_file(pdti_journal_read *read, size_t at, char *name) {
-  pdti_journal_file *file = &read->database->files[at];
-  pdti_name_journal(name, file->seq);
-  if (file->seq != read->first + at) return PDT_INCOMPLETE;
+  pdt_database *database = read->database;
+  pdti_journal_file *file = &database->files[at];
+  pdti_segment *found = &read->files[at];
   pdti_buffer bytes = {NULL, 0, 0};
-  int code = pdti_read_in(read->database->dir, name, &bytes);
+  pdti_name_journal(name, file->seq);
+  int code = pdti_read_in(database->dir, name, &bytes);
   if (code == PDT_MISSING) code = PDT_INCOMPLETE;
+  if (!code)
+    code = (int)pdtr_journal_file(read->first + at, file->seq, database->salt, database->name, bytes_at(bytes.at, bytes.len), bytes.len,
+                                  found);
+  if (!code) code = pdti_reserve(&read->frames, bytes.len + 1);
   if (!code) {
-    pdti_journal_header header = {0, 0, 0};
-    uint32_t said = pdtr_journal_read(bytes_at(bytes.at, bytes.len), bytes.len, &header);
-    bool is_headed = !said;
-    size_t front = is_headed ? JOURNAL_HEADER : 0;
-    if (said == PDT_NEWER_FORMAT) code = PDT_NEWER_FORMAT;
-    if (is_headed && (header.salt != read->database->salt || header.store != read->database->name)) code = PDT_MISMATCH;
-    if (!code) code = pdti_reserve(&read->frames, bytes.len + 1);
-    if (!code) {
-      *file = (pdti_journal_file){file->seq, header.base, bytes.len};
-      read->starts[at] = read->frames.len;
-      read->fronts[at] = front;
-      if (bytes.len > front) memcpy(read->frames.at + read->frames.len, bytes.at + front, bytes.len - front);
-      read->frames.len += bytes.len - front;
-    }
+    *file = (pdti_journal_file){file->seq, found->base, bytes.len};
+    if (found->len) memcpy(read->frames.at + read->frames.len, bytes.at + found->front, found->len);
+    read->frames.len += found->len;
   }
   free(bytes.at);
   return code;
@@ -225,7 +218,7 @@ static int test_equal(const pdti_reopened *found, uint64_t newest, pdt_report *r
 /* Opens the tables over their images, with the commits since. */
 static int open_tables(pdti_journal_read *read, uint64_t number, pdti_reopened *found, pdt_report *report) {
   pdt_database *database = read->database;
-  uint64_t base = read->fronts[0] ? database->files[0].base : number;
+  uint64_t base = pdtr_journal_base(number, read->files, database->file_count);
   uint64_t oldest = UINT64_MAX, newest = 0;
   for (size_t i = 0; i < database->count; i++) {
     pdti_member *entry = database->members[i];
@@ -246,55 +239,31 @@ static int open_tables(pdti_journal_read *read, uint64_t number, pdti_reopened *
 
 /* ---- where the journal goes on */
 
-/* The last file that has bytes behind its header. */
-static size_t last_with_frames(const pdti_journal_read *read) {
-  const pdt_database *database = read->database;
-  size_t at = database->file_count - 1;
-  while (at && database->files[at].bytes <= read->fronts[at]) at--;
-  return at;
-}
-
-/* Whether the files are behind one another: none was begun before all in those before it was durable. */
-static bool is_chain(const pdti_journal_read *read, const pdti_reopened *found, size_t last) {
-  const pdt_database *database = read->database;
-  for (size_t i = 0; i < database->file_count; i++)
-    if (read->fronts[i] && found->newest < database->files[i].base) return false;
-  return found->whole >= read->starts[last];
-}
-
-/* Puts the header and the frames of a file into another one, which the device takes. */
-static int copy_frames(const pdti_journal_read *read, size_t at, size_t frames, const char *name) {
+/* Puts the header of a file and the frames that stay into another one, which the device takes. */
+static int copy_frames(const pdti_journal_read *read, const pdti_journal_end *end, const uint8_t *frames, const char *name) {
   pdt_database *database = read->database;
+  const pdti_segment *of = &read->files[end->place];
   uint8_t header[JOURNAL_HEADER];
-  size_t front = read->fronts[at];
-  if (front && !pdtr_journal_header(database->salt, database->name, database->files[at].base, header, sizeof header)) return PDT_CORRUPT;
+  if (of->front && !pdtr_journal_header(database->salt, database->name, of->base, header, sizeof header)) return PDT_CORRUPT;
   int file = pdti_make_new(database, database->dir, name, O_WRONLY);
   if (file < 0) return PDT_IO;
-  int code = pdti_write_to(file, header, front);
-  return pdti_close_synced(file, code ? code : pdti_write_to(file, read->frames.at + read->starts[at], frames));
+  int code = pdti_write_to(file, header, of->front);
+  return pdti_close_synced(file, code ? code : pdti_write_to(file, frames, end->kept));
 }
 
-/* Writes a file anew with so many bytes of frames. Where a sync has failed before, the system may hold bytes that the device hasn't, and
-   takes them for written: only what is written again is sure to be there. */
-static int write_anew(const pdti_journal_read *read, size_t at, size_t frames) {
+/* Writes a file anew with the frames that stay. Where a sync has failed before, the system may hold bytes that the device hasn't, and takes
+   them for written: only what is written again is sure to be there. */
+static int write_anew(const pdti_journal_read *read, const pdti_journal_end *end, const uint8_t *frames) {
   pdt_database *database = read->database;
-  pdti_journal_file *file = &database->files[at];
-  if (!file->bytes) return PDT_OK;
+  pdti_journal_file *file = &database->files[end->place];
   char name[FILE_NAME];
   pdti_name_journal(name, file->seq);
-  int code = copy_frames(read, at, frames, "journal-new");
+  int code = copy_frames(read, end, frames, "journal-new");
   if (!code && renameat(database->dir, "journal-new", database->dir, name)) code = PDT_IO;
   if (code) pdti_remove_in(database->dir, "journal-new"); /* it may be what has filled the disk */
   if (!code) code = pdti_sync_in(database->dir);
-  if (!code) file->bytes = read->fronts[at] + frames;
+  if (!code) file->bytes = read->files[end->place].front + end->kept;
   return code;
-}
-
-/* Whether the commits that the manifest knows to be durable are there: else one is damaged, or missing where no bytes are left of it. */
-static int test_newest(const pdti_journal_read *read, uint64_t number, const pdti_reopened *found, pdt_report *report) {
-  if (found->newest >= number) return PDT_OK;
-  report->fault = found->newest + 1;
-  return found->whole < read->frames.len ? PDT_CORRUPT : PDT_INCOMPLETE;
 }
 
 /* Keeps what is torn where it has whole frames, and says where. */
@@ -305,19 +274,16 @@ static int keep_frames(const pdti_journal_read *read, const pdti_reopened *found
   return pdti_keep_torn(database, database->files[database->file_count - 1].seq, at, torn, report->file);
 }
 
-/* Leaves what is torn behind, so that frames go on there. */
-static int cut_torn(pdti_journal_read *read, const pdti_reopened *found, pdt_report *report) {
-  size_t last = last_with_frames(read);
-  if (!is_chain(read, found, last)) {
-    report->fault = found->newest + 1;
-    return PDT_CORRUPT;
-  }
-  size_t torn = read->frames.len - found->whole;
-  report->torn_bytes += torn;
-  bool is_durable = !torn && found->newest == read->database->noted; /* the device is known to have all of it */
-  if (is_durable || read->database->options.read_only) return PDT_OK;
-  int code = keep_frames(read, found, torn, report);
-  return code ? code : write_anew(read, last, found->whole - read->starts[last]);
+/* Finds where frames go on, with all commits that the manifest knows to be durable before it, and leaves what is torn behind. */
+static int cut_torn(pdti_journal_read *read, const pdti_reopened *found, uint64_t number, pdt_report *report) {
+  const pdt_database *database = read->database;
+  pdti_journal_end end = {0, 0, 0, 0, false};
+  int code = (int)pdtr_journal_end(read->files, database->file_count, found->newest, found->whole, number, &end);
+  report->fault = end.missing;
+  report->torn_bytes += end.torn;
+  if (code || database->options.read_only) return code;
+  code = keep_frames(read, found, end.torn, report);
+  return code || !end.is_anew ? code : write_anew(read, &end, read->frames.at + found->whole - end.kept);
 }
 
 /* Opens the last file of the journal, in which frames go on. */
@@ -387,8 +353,7 @@ static int recover(pdt_database *database, pdti_journal_read *read, pdt_report *
   code = read_journal(read, report);
   pdti_reopened found = {0, number, 0};
   if (!code) code = open_tables(read, number, &found, report);
-  if (!code) code = test_newest(read, number, &found, report);
-  if (!code) code = database->count ? cut_torn(read, &found, report) : begin_anew(database, number);
+  if (!code) code = database->count ? cut_torn(read, &found, number, report) : begin_anew(database, number);
   if (!code) code = open_last(database);
   if (code) return code;
   report->commits = found.newest;
