@@ -202,12 +202,9 @@ void pdti_name_file(char *name, uint32_t kind, uint64_t first, uint64_t second);
 /* Puts the bytes of a handle's one column behind those of a buffer, and lets the handle go. PDT_NOMEM. */
 int pdti_take_bytes(pdti_handle *bytes, pdti_buffer *into);
 
-/* ---- torn.c: what is torn off a journal's end */
+/* ---- torn.c */
 
-/* Whether bytes that begin with a torn frame have a whole one behind it, of a commit after the newest one that is taken. */
-bool pdti_has_frames(uint64_t salt, uint64_t newest, const uint8_t *torn, size_t len);
-
-/* Keeps them in a file, for whose name there is room for FILE_NAME bytes. */
+/* Keeps what is torn off the journal's end in a file, for whose name there is room for FILE_NAME bytes. */
 int pdti_keep_torn(const pdt_database *database, uint64_t seq, const uint8_t *torn, size_t len, char *name);
 
 /* ---- maintenance.c */

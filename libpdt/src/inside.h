@@ -199,6 +199,7 @@ extern uint32_t pdtr_journal_read(const uint8_t *, size_t, pdti_journal_header *
 extern uint32_t pdtr_journal_file(uint64_t, uint64_t, uint64_t, uint64_t, const uint8_t *, size_t, pdti_segment *);
 extern uint64_t pdtr_journal_base(uint64_t, const pdti_segment *, size_t);
 extern uint32_t pdtr_journal_end(const pdti_segment *, size_t, uint64_t, uint64_t, uint64_t, pdti_journal_end *);
+extern bool pdtr_has_frames(uint64_t, uint64_t, const uint8_t *, size_t);
 extern bool pdtr_frame_head(uint64_t, uint64_t, uint64_t, const uint8_t *, size_t, uint8_t *, size_t);
 extern uint32_t pdtr_part(pdti_handle *, pdti_handle *, pdti_handle *, uint32_t, pdti_handle *);
 extern uint32_t pdtr_reopen(const uint8_t *, size_t, const pdti_slice *, size_t, size_t, uint64_t, bool, uint64_t, uint32_t, uint64_t,

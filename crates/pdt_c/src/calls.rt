@@ -26,5 +26,6 @@ mod scans;
 mod stretches;
 mod tables;
 mod texts;
+mod torn_frames;
 mod upkeep;
 mod writes;

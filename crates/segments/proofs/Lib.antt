@@ -1,3 +1,4 @@
 pub mod ListingLemmas
 pub mod SegmentLemmas
 pub mod EndLemmas
+pub mod TornLemmas

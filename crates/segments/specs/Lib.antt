@@ -5,3 +5,4 @@ pub mod Pieces
 pub mod Version
 pub mod Segment
 pub mod Ends
+pub mod Torn

@@ -15,6 +15,7 @@ mod marks;
 mod naming;
 mod pieces;
 mod segment;
+mod torn;
 mod version;
 
 pub use ends::{JournalEnd, base_before, find_end};
@@ -24,4 +25,5 @@ pub use marks::{first_damaged, has_mark};
 pub use naming::table_named;
 pub use pieces::{Joined, Piece, are_behind, join_files, last_len};
 pub use segment::{Segment, read_segment};
+pub use torn::has_frame_behind;
 pub use version::is_later_header;

@@ -35,7 +35,7 @@ pub fn is_later_header(bytes: &[u8]) -> bool
 }
 
 /// The number that the four bytes from this place on spell.
-fn word_at(bytes: &[u8], at: usize) -> u32
+pub(crate) fn word_at(bytes: &[u8], at: usize) -> u32
     requires { at + 4 ≤ length bytes.now }
     ensures { result ≡ word_at bytes.now at }
 {

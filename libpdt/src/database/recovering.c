@@ -270,7 +270,7 @@ static int write_anew(const pdti_journal_read *read, const pdti_journal_end *end
 static int keep_frames(const pdti_journal_read *read, const pdti_reopened *found, size_t torn, pdt_report *report) {
   const pdt_database *database = read->database;
   const uint8_t *at = read->frames.at + found->whole;
-  if (!torn || !pdti_has_frames(database->salt, found->newest, at, torn)) return PDT_OK;
+  if (!torn || !pdtr_has_frames(database->salt, found->newest, at, torn)) return PDT_OK;
   return pdti_keep_torn(database, database->files[database->file_count - 1].seq, at, torn, report->file);
 }
 
