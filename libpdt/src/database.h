@@ -23,9 +23,8 @@ typedef struct {
   uint64_t bytes; /* how many it has: 0 before the first frame is written, when it has no header and no base either */
 } pdti_journal_file;
 
-/* How many files a journal may have, the bytes of its header and of a frame's head, room for a file's name, and what a CRC-32C begins
-   with. */
-enum { JOURNAL_FILES = 4096, JOURNAL_HEADER = 36, FRAME_HEAD = 28, FILE_NAME = 64, CHECK_SEED = -1 };
+/* How many files a journal may have, the bytes of its header and of a frame's head, and what a CRC-32C begins with. */
+enum { JOURNAL_FILES = 4096, JOURNAL_HEADER = 36, FRAME_HEAD = 28, CHECK_SEED = -1 };
 
 /* An image of a table. */
 typedef struct {

@@ -93,13 +93,13 @@ typedef struct {
   uint32_t check;
 } pdti_manifest_mark;
 
-/* a file of a database's folder: its kind, and its numbers. A journal's is the first; an image has its table's and its own, declared
-   columns their table's */
+/* a file of a database's folder: its kind, and its numbers. A journal's is the first, and so is that of what was torn off it; an image has
+   its table's and its own, declared columns their table's, and in an image's folder a column has its place, and the header none */
 typedef struct {
   uint64_t first, second;
   uint32_t kind;
 } pdti_file_name;
-enum { PDTI_JOURNAL = 1, PDTI_IMAGE = 2, PDTI_TYPES = 3 };
+enum { PDTI_JOURNAL = 1, PDTI_IMAGE = 2, PDTI_TYPES = 3, PDTI_TORN = 4, PDTI_COLUMN = 5, PDTI_HEADER = 6 };
 
 extern uint32_t pdtr_open(const uint8_t *, size_t, size_t, uint64_t, bool, pdti_text_fault *, uint8_t *, size_t, size_t *, pdti_handle *);
 extern uint32_t pdtr_has_types(const uint8_t *, size_t, bool *);
@@ -536,6 +536,10 @@ int pdti_width_of(const uint8_t *header, size_t len, size_t *width);
 /* ---- files */
 
 enum { CHUNK = 1 << 20 };
+
+/* Room for the name of a file; and the name of one of an image: the header's where column is negative. */
+enum { FILE_NAME = 64 };
+void pdti_name_column(char *name, int column);
 
 /* Writes all of the bytes, or PDT_IO. */
 int pdti_write_to(int file, const void *bytes, size_t len);

@@ -1,12 +1,12 @@
 //! The names of files in a database's folder. A zero ends each, as in C.
 ghost use Rattle.std.specs.Prelude.{◌≡◌, ◌<◌, ◌≤◌, ◌+◌, ◌++◌, Some, IfSome, IsNone, length, take};
-ghost use Rattle.manifest.specs.FileName.{IsFileName, file_named, image_named, journal_named, name_text, types_named};
+ghost use Rattle.manifest.specs.FileName.{IsFileName, column_named, file_named, header_named, image_file_named, image_named, journal_named, name_text, other_named, torn_named, types_named};
 ghost use Rattle.manifest.specs.Manifest.{number_text};
 
 use crate::fields::{after_word, number_at};
 use itoa::Buffer;
 
-/// The greatest number of a table.
+/// The greatest number of a table, and of a column.
 const MAX_TABLE: u64 = u32::MAX as u64;
 
 /// What a file of a database's folder is.
@@ -18,6 +18,12 @@ pub enum FileName {
     Image(u32, u64),
     /// The declared columns of a table, by its number.
     Types(u32),
+    /// What was torn off the journal's end, by the number of its last file then.
+    Torn(u64),
+    /// A column of an image, by its number.
+    Column(u32),
+    /// The header of an image, which names its columns.
+    Header,
 }
 
 /// The file that a name is of. The zero that ends it is its last byte. Takes no memory.
@@ -39,8 +45,31 @@ fn file_named(name: &[u8]) -> Option<FileName>
         Some(file) => Some(file),
         None => match image_named(name) {
             Some(file) => Some(file),
-            None => types_named(name),
+            None => other_named(name),
         },
+    }
+}
+
+#[tactic(auto, unfolding(crate::specs::FileName::other_named))]
+fn other_named(name: &[u8]) -> Option<FileName>
+    ensures { result ≡ other_named name.now }
+{
+    match types_named(name) {
+        Some(file) => Some(file),
+        None => match torn_named(name) {
+            Some(file) => Some(file),
+            None => image_file_named(name),
+        },
+    }
+}
+
+#[tactic(auto, unfolding(crate::specs::FileName::image_file_named))]
+fn image_file_named(name: &[u8]) -> Option<FileName>
+    ensures { result ≡ image_file_named name.now }
+{
+    match column_named(name) {
+        Some(file) => Some(file),
+        None => header_named(name),
     }
 }
 
@@ -84,6 +113,44 @@ fn types_named(name: &[u8]) -> Option<FileName>
     }
 }
 
+#[tactic(auto, unfolding(crate::specs::FileName::torn_named))]
+fn torn_named(name: &[u8]) -> Option<FileName>
+    ensures { result ≡ torn_named name.now }
+{
+    let rest = after_word(name, b"torn-")?;
+    let (number, rest) = number_at(rest, u64::MAX, 0)?;
+    if rest.is_empty() {
+        Some(FileName::Torn(number))
+    } else {
+        None
+    }
+}
+
+#[tactic(auto, unfolding(crate::specs::FileName::column_named))]
+fn column_named(name: &[u8]) -> Option<FileName>
+    ensures { result ≡ column_named name.now }
+{
+    let rest = after_word(name, b"column-")?;
+    let (number, rest) = number_at(rest, MAX_TABLE, b'.')?;
+    let rest = after_word(rest, b"pdt\0")?;
+    if rest.is_empty() {
+        Some(FileName::Column(number as u32))
+    } else {
+        None
+    }
+}
+
+#[tactic(auto, unfolding(crate::specs::FileName::header_named))]
+fn header_named(name: &[u8]) -> Option<FileName>
+    ensures { result ≡ header_named name.now }
+{
+    if name == b"header.csv\0".as_slice() {
+        Some(FileName::Header)
+    } else {
+        None
+    }
+}
+
 /// Puts the name of a file, with the zero that ends it, where there is room, and answers how many bytes it has. Takes no memory.
 pub fn put_file_name(file: FileName, out: &mut [u8]) -> Option<usize>
     ensures put { IfSome result (λ end. take end out.new ≡ name_text file) }
@@ -104,6 +171,16 @@ pub fn put_file_name(file: FileName, out: &mut [u8]) -> Option<usize>
             let end = put_at(out, 0, b"types-")?;
             put_number_at(out, end, u64::from(table), 0)
         }
+        FileName::Torn(number) => {
+            let end = put_at(out, 0, b"torn-")?;
+            put_number_at(out, end, number, 0)
+        }
+        FileName::Column(column) => {
+            let end = put_at(out, 0, b"column-")?;
+            let end = put_number_at(out, end, u64::from(column), b'.')?;
+            put_at(out, end, b"pdt\0")
+        }
+        FileName::Header => put_at(out, 0, b"header.csv\0"),
     }
 }
 

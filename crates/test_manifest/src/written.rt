@@ -156,6 +156,10 @@ fn a_file_has_one_name(rt: HostRuntime) -> Result<(), Fail> {
         )
     );
     assert!(&rt; is_named(FileName::Types(10), b"types-10\0"));
+    assert!(&rt; is_named(FileName::Torn(12), b"torn-12\0"));
+    assert!(&rt; is_named(FileName::Column(0), b"column-0.pdt\0"));
+    assert!(&rt; is_named(FileName::Column(63), b"column-63.pdt\0"));
+    assert!(&rt; is_named(FileName::Header, b"header.csv\0"));
     let mut small = [0_u8; 9];
     assert!(&rt; put_file_name(FileName::Journal(0), &mut small).is_none());
     let mut enough = [0_u8; 10];
@@ -177,6 +181,13 @@ fn a_file_has_one_name(rt: HostRuntime) -> Result<(), Fail> {
         "types-4294967296",
         "types-new",
         "types-1-1",
+        "torn-",
+        "torn-1.pdt",
+        "column-1",
+        "column-1.csv",
+        "column-01.pdt",
+        "column-4294967296.pdt",
+        "header.csv.gz",
         "manifest",
         "",
     ];

@@ -7,15 +7,6 @@
 
 static void folder_of(char *name, uint64_t member, uint64_t folder) { pdti_name_file(name, PDTI_IMAGE, member, folder); }
 
-/* The name of a file in it: the header's where column is negative. */
-static void file_of(char *name, int column) {
-  if (column < 0) {
-    snprintf(name, FILE_NAME, "header.csv");
-  } else {
-    snprintf(name, FILE_NAME, "column-%d.pdt", column);
-  }
-}
-
 /* ---- writing */
 
 /* A file that is written, and what is known of it so far. */
@@ -44,7 +35,7 @@ typedef struct {
 /* Writes one file of an image, synced. */
 static int write_one(const pdti_writer *of, int column, pdti_manifest_mark *mark) {
   char name[FILE_NAME];
-  file_of(name, column);
+  pdti_name_column(name, column);
   pdti_marked_file into = {pdti_make_in(of->database, of->dir, name, O_WRONLY | O_EXCL), {0, (uint32_t)CHECK_SEED}};
   if (into.file < 0) return PDT_IO;
   int code;
@@ -84,7 +75,7 @@ void pdti_remove_image(pdt_database *database, uint64_t member, uint64_t folder)
   if (!*name) return; /* no table has this number */
   for (int column = -1; column < PDT_MAX_COLUMNS; column++) {
     char one[FILE_NAME];
-    file_of(one, column);
+    pdti_name_column(one, column);
     snprintf(file, sizeof file, "%s/%s", name, one);
     unlinkat(database->dir, file, 0); /* a crash may have left any of them */
   }
@@ -97,7 +88,7 @@ void pdti_remove_image(pdt_database *database, uint64_t member, uint64_t folder)
 /* Reads a file, and tests its length and its check. */
 static int read_marked(int dir, const char *folder, int column, const pdti_manifest_mark *mark, pdti_buffer *into, char *file) {
   char name[FILE_NAME];
-  file_of(name, column);
+  pdti_name_column(name, column);
   snprintf(file, FILE_NAME, "%.40s/%.20s", folder, name);
   int code = pdti_read_in(dir, file, into);
   if (code) return code == PDT_MISSING ? PDT_INCOMPLETE : code;

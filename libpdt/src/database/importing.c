@@ -41,12 +41,13 @@ static int read_one(pdt_database *database, const char *name, pdti_buffer *into,
 
 /* A header that is none of a table is damaged, as a file that isn't what it was. */
 static int read_table(pdt_database *database, pdti_run_files *run, char *file) {
-  int code = read_one(database, "header.csv", &run->header, file);
+  char name[FILE_NAME];
+  pdti_name_column(name, -1);
+  int code = read_one(database, name, &run->header, file);
   if (!code) code = pdti_width_of(bytes_at(run->header.at, run->header.len), run->header.len, &run->width);
   if (code == PDT_BAD_TABLE || code == PDT_TOO_MANY_ROWS) code = PDT_CORRUPT;
   for (size_t i = 0; i < run->width && !code; i++) {
-    char name[FILE_NAME];
-    snprintf(name, sizeof name, "column-%zu.pdt", i);
+    pdti_name_column(name, (int)i);
     code = read_one(database, name, &run->columns[i], file);
     run->slices[i] = (pdti_slice){bytes_at(run->columns[i].at, run->columns[i].len), run->columns[i].len};
   }
@@ -79,7 +80,7 @@ static int number_of(const pdti_run_files *run, uint64_t *number, pdt_report *re
     report->fault = found.place;
     snprintf(report->file, sizeof report->file, "images.pdt");
   } else if (code == PDT_BAD_CHECKPOINT && found.place < run->width) {
-    snprintf(report->file, sizeof report->file, "column-%zu.pdt", (size_t)found.place);
+    pdti_name_column(report->file, (int)found.place);
   }
   return code;
 }
@@ -194,17 +195,19 @@ static bool has_own_run(pdt_database *database) {
 void pdti_remove_run(pdt_database *database) {
   pdti_buffer header = {NULL, 0, 0};
   size_t width = 0;
+  char name[FILE_NAME];
   if (!has_own_run(database)) return;
-  int code = pdti_read_in(database->dir, "header.csv", &header);
+  pdti_name_column(name, -1);
+  int code = pdti_read_in(database->dir, name, &header);
   if (!code) code = pdti_width_of(bytes_at(header.at, header.len), header.len, &width);
   free(header.at);
   if (code && code != PDT_MISSING) return;
-  char name[FILE_NAME];
   for (size_t i = 0; i < width; i++) {
-    snprintf(name, sizeof name, "column-%zu.pdt", i);
+    pdti_name_column(name, (int)i);
     if (unlinkat(database->dir, name, 0) && errno != ENOENT) return;
   }
-  static const char *const rest[] = {"images.pdt", "header.csv", "journal.pdt"};
+  pdti_name_column(name, -1);
+  const char *const rest[] = {"images.pdt", name, "journal.pdt"};
   for (size_t i = 0; i < 3; i++)
     if (pdti_sync_in(database->dir) || (unlinkat(database->dir, rest[i], 0) && errno != ENOENT)) return;
 }

@@ -3,10 +3,9 @@
 #include "database.h"
 
 #include <fcntl.h>
-#include <stdio.h>
 
 int pdti_keep_torn(const pdt_database *database, uint64_t seq, const uint8_t *torn, size_t len, char *name) {
-  snprintf(name, FILE_NAME, "torn-%llu", (unsigned long long)seq);
+  pdti_name_file(name, PDTI_TORN, seq, 0);
   int file = pdti_make_new(database, database->dir, name, O_WRONLY);
   if (file < 0) return PDT_IO;
   int code = pdti_close_synced(file, pdti_write_to(file, torn, len));

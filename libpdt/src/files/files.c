@@ -9,9 +9,10 @@ enum { PATH_BYTES = 4096 };
 
 /* The path of a file of a checkpoint: the header's where column is negative. No path is empty: that would be the root folder's. */
 static int path_of(char *path, const char *folder, int column) {
+  char name[FILE_NAME];
   if (!*folder) return PDT_MISUSE;
-  int len = column < 0 ? snprintf(path, PATH_BYTES, "%s/header.csv", folder)
-                       : snprintf(path, PATH_BYTES, "%s/column-%d.pdt", folder, column);
+  pdti_name_column(name, column);
+  int len = snprintf(path, PATH_BYTES, "%s/%s", folder, name);
   return len >= 0 && len < PATH_BYTES ? PDT_OK : PDT_MISUSE;
 }
 

@@ -130,6 +130,11 @@ void pdti_name_file(char *name, uint32_t kind, uint64_t first, uint64_t second) 
   if (!pdtr_file_name(kind, first, second, (uint8_t *)name, FILE_NAME)) *name = 0;
 }
 
+void pdti_name_column(char *name, int column) {
+  if (column < 0) pdti_name_file(name, PDTI_HEADER, 0, 0);
+  else pdti_name_file(name, PDTI_COLUMN, (uint64_t)column, 0);
+}
+
 /* The next name, or null at the end and where reading fails: only errno tells which. */
 static struct dirent *next_name(DIR *names) {
   errno = 0;

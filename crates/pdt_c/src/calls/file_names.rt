@@ -17,6 +17,15 @@ const IMAGE: u32 = 2;
 /// The declared columns of a table: the table's number is the first.
 const TYPES: u32 = 3;
 
+/// What was torn off a journal's end: the number of its last file is the first.
+const TORN: u32 = 4;
+
+/// A column of an image: its place is the first.
+const COLUMN: u32 = 5;
+
+/// The header of an image.
+const HEADER: u32 = 6;
+
 /// What a file is. A number that its kind doesn't have is 0.
 #[repr(C)]
 #[derive(Clone, Copy)]
@@ -61,6 +70,21 @@ fn file_record(file: FileName) -> FileRecord
             second: 0,
             kind: TYPES,
         },
+        FileName::Torn(number) => FileRecord {
+            first: number,
+            second: 0,
+            kind: TORN,
+        },
+        FileName::Column(column) => FileRecord {
+            first: u64::from(column),
+            second: 0,
+            kind: COLUMN,
+        },
+        FileName::Header => FileRecord {
+            first: 0,
+            second: 0,
+            kind: HEADER,
+        },
     }
 }
 
@@ -84,12 +108,17 @@ fn file_of(kind: u32, first: u64, second: u64) -> Option<FileName>
     if kind == JOURNAL {
         return Some(FileName::Journal(first));
     }
+    if kind == TORN {
+        return Some(FileName::Torn(first));
+    }
     if first > u64::from(u32::MAX) {
         return None;
     }
     match kind {
         IMAGE => Some(FileName::Image(first as u32, second)),
         TYPES => Some(FileName::Types(first as u32)),
+        COLUMN => Some(FileName::Column(first as u32)),
+        HEADER => Some(FileName::Header),
         _ => None,
     }
 }
