@@ -105,8 +105,9 @@ extern uint32_t pdtr_open(const uint8_t *, size_t, size_t, uint64_t, bool, pdti_
 extern uint32_t pdtr_has_types(const uint8_t *, size_t, bool *);
 extern uint32_t pdtr_open_plain(const uint8_t *, size_t, const pdti_slice *, size_t, size_t, size_t, uint64_t, bool, pdti_text_fault *,
                                 uint8_t *, size_t, size_t *, pdti_handle *);
-extern uint32_t pdtr_open_columns(const uint8_t *, size_t, size_t, const pdti_numbers *, size_t, const pdti_offsets *, size_t,
-                                  const pdti_slice *, size_t, size_t, uint64_t, bool, pdt_place *, pdti_handle *);
+extern uint32_t pdtr_open_columns(const pdti_slice *, size_t, const uint32_t *, size_t, size_t, size_t, const pdti_numbers *, size_t,
+                                  const pdti_offsets *, size_t, const pdti_slice *, size_t, size_t, uint64_t, bool, pdt_place *,
+                                  pdti_handle *);
 extern uint32_t pdtr_recover(const uint8_t *, size_t, const pdti_slice *, size_t, size_t, uint64_t, bool, uint32_t *, pdti_handle *);
 extern uint32_t pdtr_manifest_read(const uint8_t *, size_t, pdti_handle *);
 extern size_t pdtr_manifest_head(pdti_handle *, pdti_manifest_head *);
@@ -122,6 +123,7 @@ extern uint32_t pdtr_file_read(const uint8_t *, size_t, pdti_file_name *);
 extern size_t pdtr_file_name(uint32_t, uint64_t, uint64_t, uint8_t *, size_t);
 extern uint32_t pdtr_types_read(const uint8_t *, size_t, size_t, size_t, uint8_t *, size_t, size_t *);
 extern uint32_t pdtr_types_bytes(const pdti_slice *, size_t, pdti_handle *);
+extern uint32_t pdtr_header(pdti_handle *, pdti_handle *);
 extern void pdtr_close(pdti_handle *);
 extern size_t pdtr_width(pdti_handle *);
 extern size_t pdtr_key_columns(pdti_handle *);
@@ -209,7 +211,9 @@ extern uint32_t pdtr_marked(const uint8_t *, size_t, const pdti_slice *, size_t,
 
 /* ---- the objects */
 
-enum { PDTI_FORMAT_BYTES = 64 };
+/* Room for a declared format; and for a header: a record that names the columns, each in quotes, since a name may have commas, quotes and
+   ends of lines. */
+enum { PDTI_FORMAT_BYTES = 64, CSV_HEADER_BYTES = PDT_MAX_COLUMNS * (2 * PDT_MAX_NAME + 16) };
 
 /* The locks of a table, which all tables of a database share. */
 typedef struct {
@@ -236,6 +240,8 @@ struct pdt_table {
   int types[PDT_MAX_COLUMNS];
   size_t name_bytes[PDT_MAX_COLUMNS]; /* a name may have a zero byte */
   char names[PDT_MAX_COLUMNS][PDT_MAX_NAME + 1];
+  char header[CSV_HEADER_BYTES]; /* of its images */
+  size_t header_bytes;
   char declared[PDT_MAX_COLUMNS][PDTI_FORMAT_BYTES]; /* what the numbers of an int column stand for, or nothing: a format of Arrow's */
 
   _Atomic(pdti_commit *) waiting_commits; /* the last one that waits to be made */
@@ -522,13 +528,6 @@ void pdti_free_table(pdt_table *table);
 /* Whether a table is in use. Under the lock; the second with fresh_lock held too. */
 bool pdti_is_used(pdt_table *table);
 bool pdti_is_used_now(const pdt_table *table);
-
-/* The header of a checkpoint: a record that names the columns, each in quotes, since a name may have commas, quotes and ends of lines. */
-enum { CSV_HEADER_BYTES = PDT_MAX_COLUMNS * (2 * PDT_MAX_NAME + 16) };
-size_t pdti_header(const pdt_table *table, char *text);
-
-/* Puts the cell of one more column after so many bytes, and answers where it ends. */
-size_t pdti_add_heading(char *text, size_t len, const char *name, size_t bytes, int type, bool is_key);
 
 /* How many columns a header has. */
 int pdti_width_of(const uint8_t *header, size_t len, size_t *width);

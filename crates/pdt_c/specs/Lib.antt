@@ -20,3 +20,4 @@ pub mod Columns
 pub mod Listed
 pub mod FileNames
 pub mod JournalFiles
+pub mod Headers

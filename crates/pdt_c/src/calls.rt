@@ -6,6 +6,7 @@ mod commits;
 mod declared_columns;
 mod entries;
 mod file_names;
+mod headers_of_tables;
 mod image_bytes;
 mod importing;
 mod ints;

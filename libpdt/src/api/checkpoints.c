@@ -182,9 +182,8 @@ pdt_code pdt_checkpoint_to(pdt_table *table, pdt_write write, void *context, siz
   pdti_draft made = {{NULL}, {NULL}, {NULL}, 0};
   int code = make_draft(table, &made);
   if (!code) {
-    char header[CSV_HEADER_BYTES];
-    size_t at = PDT_HEADER, len = pdti_header(table, header);
-    if (write(context, at, (const uint8_t *)header, len)) code = PDT_DEVICE_FAILED;
+    size_t at = PDT_HEADER;
+    if (write(context, at, (const uint8_t *)table->header, table->header_bytes)) code = PDT_DEVICE_FAILED;
     while (!code && ++at < table->width)
       if (!pdti_hand_column(&made.image, at, chunk, write, context)) code = PDT_DEVICE_FAILED;
     if (code && column) *column = at;

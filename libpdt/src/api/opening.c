@@ -8,23 +8,14 @@
 
 /* ---- headers */
 
-size_t pdti_add_heading(char *text, size_t len, const char *name, size_t bytes, int type, bool is_key) {
-  static const char *const words[] = {"", "int", "text", "bool"};
-  if (len) text[len++] = ',';
-  text[len++] = '"';
-  for (size_t i = 0; i < bytes; i++) {
-    if (name[i] == '"') text[len++] = '"';
-    text[len++] = name[i];
-  }
-  return len + (size_t)sprintf(text + len, ":%s%s\"", words[type], is_key ? ":key" : "");
-}
-
-size_t pdti_header(const pdt_table *table, char *text) {
-  size_t len = 0;
-  for (size_t column = 0; column < table->width; column++)
-    len = pdti_add_heading(text, len, table->names[column], table->name_bytes[column], table->types[column], column < table->key);
-  text[len++] = '\n';
-  return len;
+/* Keeps the header of a table's columns, which no image is without. */
+static int keep_header(pdt_table *table) {
+  pdti_handle header = {NULL};
+  int code = (int)pdtr_header(&table->raw, &header);
+  if (code) return code;
+  table->header_bytes = pdtr_image_read(&header, 0, 0, (uint8_t *)table->header, sizeof table->header);
+  pdtr_image_close(&header);
+  return PDT_OK;
 }
 
 /* ---- options */
@@ -60,10 +51,12 @@ static int make_own(pdt_table *table) {
 }
 
 int pdti_adopt(pdt_table *table, const pdt_options *options, pdt_table **out) {
-  if (make_own(table)) {
+  int code = keep_header(table);
+  if (!code && make_own(table)) code = PDT_NOMEM;
+  if (code) {
     pdtr_close(&table->raw);
     free(table);
-    return PDT_NOMEM;
+    return code;
   }
   table->locks = &table->own_locks;
   table->recent = options->recent;
@@ -263,8 +256,14 @@ static int pass_column(pdti_passed *all, size_t at, const pdt_column *column, co
   }
 }
 
-/* Puts the header of columns, of whose names, types and number so much is tested as room for it wants. */
-static int head_columns(const pdt_column *columns, size_t count, size_t key, char *text, size_t *len) {
+/* The names and the types of columns. */
+typedef struct {
+  pdti_slice names[PDT_MAX_COLUMNS];
+  uint32_t types[PDT_MAX_COLUMNS];
+} pdti_headings;
+
+/* Takes them, of which so much is tested as the passing of the columns wants. */
+static int head_columns(const pdt_column *columns, size_t count, size_t key, pdti_headings *headings) {
   if (!count || count > PDT_MAX_COLUMNS || !key || key > count) return PDT_BAD_TABLE;
   for (size_t column = 0; column < count; column++) {
     const pdt_column *one = &columns[column];
@@ -272,9 +271,9 @@ static int head_columns(const pdt_column *columns, size_t count, size_t key, cha
     size_t bytes = strnlen(one->name, PDT_MAX_NAME + 1);
     int type = column < key ? one->type : one->type & ~PDT_OUTSIDE; /* the key's values never stay outside */
     if (bytes > PDT_MAX_NAME || type < PDT_INT || type > PDT_BOOL) return PDT_BAD_TABLE;
-    *len = pdti_add_heading(text, *len, one->name, bytes, type, column < key);
+    headings->names[column] = (pdti_slice){(const uint8_t *)one->name, bytes};
+    headings->types[column] = (uint32_t)type;
   }
-  text[(*len)++] = '\n';
   return PDT_OK;
 }
 
@@ -292,10 +291,9 @@ pdt_code pdt_open_columns(const pdt_column *columns, size_t count, size_t key, c
   *out = NULL;
   pdt_options asked;
   if ((!columns && count) || pdti_options_of(options, &asked)) return PDT_MISUSE;
-  char header[CSV_HEADER_BYTES];
-  size_t len = 0;
+  pdti_headings headings;
   pdt_place at = {0, 0};
-  int code = head_columns(columns, count, key, header, &len);
+  int code = head_columns(columns, count, key, &headings);
   if (code) return refuse_columns(code, columns, count, key, &at, &asked);
   pdti_passed *all = malloc(sizeof *all);
   pdt_table *table = calloc(1, sizeof *table);
@@ -303,8 +301,8 @@ pdt_code pdt_open_columns(const pdt_column *columns, size_t count, size_t key, c
   if (!all || !table || map_zeros(&map, columns, count)) code = PDT_NOMEM;
   for (size_t column = 0; column < count && !code; column++) code = pass_column(all, column, &columns[column], &map);
   if (!code)
-    code = (int)pdtr_open_columns((const uint8_t *)header, len, (size_t)columns[0].rows, all->numbers, count, all->offsets, count,
-                                  all->bytes, count, asked.recent, asked.row_limit, asked.by_row, &at, &table->raw);
+    code = (int)pdtr_open_columns(headings.names, count, headings.types, count, key, (size_t)columns[0].rows, all->numbers, count,
+                                  all->offsets, count, all->bytes, count, asked.recent, asked.row_limit, asked.by_row, &at, &table->raw);
   free(all);
   if (map.len) munmap(map.at, map.len);
   if (place) *place = at;

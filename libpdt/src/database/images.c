@@ -39,12 +39,8 @@ static int write_one(const pdti_writer *of, int column, pdti_manifest_mark *mark
   pdti_marked_file into = {pdti_make_in(of->database, of->dir, name, O_WRONLY | O_EXCL), {0, (uint32_t)CHECK_SEED}};
   if (into.file < 0) return PDT_IO;
   int code;
-  if (column < 0) {
-    char header[CSV_HEADER_BYTES];
-    code = put_marked(&into, PDT_HEADER, (const uint8_t *)header, pdti_header(of->table, header));
-  } else {
-    code = pdti_hand_column(of->bytes, (size_t)column, of->chunk, put_marked, &into) ? PDT_OK : PDT_IO;
-  }
+  if (column < 0) code = put_marked(&into, PDT_HEADER, (const uint8_t *)of->table->header, of->table->header_bytes);
+  else code = pdti_hand_column(of->bytes, (size_t)column, of->chunk, put_marked, &into) ? PDT_OK : PDT_IO;
   *mark = into.mark;
   return pdti_close_synced(into.file, code);
 }

@@ -57,10 +57,8 @@ static int make_file(const char *folder, int column, int *made) {
 }
 
 static int write_header(const pdt_table *table, const char *folder, int *made) {
-  char text[CSV_HEADER_BYTES];
-  size_t len = pdti_header(table, text);
   int file = make_file(folder, -1, made);
-  return file < 0 ? -file : end_file(file, pdti_write_to(file, text, len));
+  return file < 0 ? -file : end_file(file, pdti_write_to(file, table->header, table->header_bytes));
 }
 
 bool pdti_hand_column(pdti_handle *image, size_t column, uint8_t *chunk, pdt_write write, void *context) {
