@@ -13,6 +13,13 @@ typedef struct {
   size_t len, room;
 } pdti_buffer;
 
+/* The frames of a journal, which stay as they are while its tables are opened: their bytes, and what was read of them. */
+typedef struct {
+  pdti_handle read;
+  const uint8_t *at;
+  size_t len;
+} pdti_frames;
+
 /* Makes room for so many bytes more. */
 int pdti_reserve(pdti_buffer *into, size_t more);
 
@@ -153,7 +160,7 @@ int pdti_write_image(pdt_database *database, const pdti_member *entry, pdti_hand
 
 /* Reads the image that the manifest names, tests its checks, and opens it with the journal's frames. *file is the one that a code is
    about. */
-int pdti_open_image(pdt_database *database, pdti_member *entry, uint64_t base, const pdti_buffer *frames, pdti_reopened *found, char *file);
+int pdti_open_image(pdt_database *database, pdti_member *entry, pdti_frames *frames, pdti_reopened *found, char *file);
 
 /* Takes away the folder of an image. */
 void pdti_remove_image(pdt_database *database, uint64_t member, uint64_t folder);

@@ -204,8 +204,10 @@ extern uint32_t pdtr_journal_end(const pdti_segment *, size_t, uint64_t, uint64_
 extern bool pdtr_has_frames(uint64_t, uint64_t, const uint8_t *, size_t);
 extern bool pdtr_frame_head(uint64_t, uint64_t, uint64_t, const uint8_t *, size_t, uint8_t *, size_t);
 extern uint32_t pdtr_part(pdti_handle *, pdti_handle *, pdti_handle *, uint32_t, pdti_handle *);
-extern uint32_t pdtr_reopen(const uint8_t *, size_t, const pdti_slice *, size_t, size_t, uint64_t, bool, uint64_t, uint32_t, uint64_t,
-                            uint64_t, const uint8_t *, size_t, pdti_reopened *, pdti_handle *);
+extern uint32_t pdtr_frames_read(uint64_t, uint64_t, const uint8_t *, size_t, pdti_handle *);
+extern void pdtr_frames_close(pdti_handle *);
+extern uint32_t pdtr_reopen(const uint8_t *, size_t, const pdti_slice *, size_t, size_t, uint64_t, bool, uint64_t, uint32_t, pdti_handle *,
+                            const uint8_t *, size_t, pdti_reopened *, pdti_handle *);
 extern uint32_t pdtr_marked(const uint8_t *, size_t, const pdti_slice *, size_t, uint64_t, uint64_t, const uint8_t *, size_t,
                             pdti_marked_image *);
 

@@ -6,4 +6,5 @@ pub mod LoopLemmas
 pub mod PartLemmas
 pub mod PartSpeltLemmas
 pub mod SpeltLemmas
+pub mod TablesLemmas
 pub mod TextLemmas

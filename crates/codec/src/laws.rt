@@ -1,4 +1,5 @@
 //! The laws of payloads, each the contract of a function that does nothing. A caller who needs one calls it.
+ghost use Rattle.codec.specs.Tables.{OtherTablesReadNone};
 ghost use Rattle.codec.specs.Laws.{APayloadIsOfOneList, CommitEntriesFit, EntriesAreSpelt, OthersReadNone, PartsAreSpelt, PartsReadBack};
 
 /// Each table's entries are read from the payload of all parts, and none for another table.
@@ -21,4 +22,9 @@ pub fn what_reads_is_spelt()
 /// Bytes are the payload of one list of parts at most.
 pub fn a_payload_is_of_one_list()
     ensures { APayloadIsOfOneList }
+{}
+
+/// The tables of a payload ascend, and it says no entries of any other.
+pub fn other_tables_read_none()
+    ensures { OtherTablesReadNone }
 {}

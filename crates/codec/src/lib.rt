@@ -19,7 +19,8 @@ mod spelling;
 pub use fault::{PayloadFault, SpellFault};
 pub use fit::entries_fit;
 pub use laws::{
-    a_payload_is_of_one_list, commit_entries_fit, parts_read_back, what_reads_is_spelt,
+    a_payload_is_of_one_list, commit_entries_fit, other_tables_read_none, parts_read_back,
+    what_reads_is_spelt,
 };
-pub use parts::{PartBytes, read_part};
+pub use parts::{PartBytes, read_part, tables_in};
 pub use spelling::write_part;

@@ -1,6 +1,7 @@
 //! The parts of a payload, and the entries of one table's.
 ghost use Rattle.std.specs.Prelude.{◌≡◌, ◌<◌, ◌≤◌, length, IfOk, MatchOption};
 ghost use Rattle.codec.specs.Reading.{Gives, entries_in, found_span, maybe_span, span_at, span_in, word_at};
+ghost use Rattle.codec.specs.Tables.{tables_in};
 
 use crate::entries::entries_to;
 use crate::fault::PayloadFault;
@@ -37,6 +38,27 @@ pub fn read_part(
         Some(part) => entries_to(alloc, schema, part.end, part.bytes),
         None => Ok(Vec::new(alloc)),
     }
+}
+
+/// The tables of which the payload has parts, in ascending order. It reads the frame of each part, and none of its entries.
+///
+/// # Errors
+///
+/// The first fault of the parts' frames, from the left: `Short` where a part is cut short, `BadTable` where its table isn't
+/// above the one before. Or `NoMemory` where a growth is refused.
+pub fn tables_in(alloc: Global, payload: &[u8]) -> Result<Vec<u32>, PayloadFault>
+    ensures { Gives (λ tables. tables.items) result (tables_in payload.now) }
+{
+    let mut tables = Vec::new(alloc);
+    let mut low = 0;
+    let mut rest = payload;
+    while !rest.is_empty() {
+        let (part, after) = part_at(payload.len(), low, rest)?;
+        low = part.table as u64 + 1;
+        tables.push(part.table)?;
+        rest = after;
+    }
+    Ok(tables)
 }
 
 /// The bytes of the table's part, where the payload has one.

@@ -167,8 +167,8 @@ pub refusal_of : (header : List ℕ) (columns : List (List ℕ)) (image : Stable
 refusal_of header columns image row_limit recent number table seed base frames code commit is h = record {
   some = h.some;
   rot = h.rot;
-  gap = λ e small. h.gap e;
-  misfit = λ e. inr (image, is, h.misfit e);
+  gap = h.gap;
+  misfit = λ e. (image, is, h.misfit e);
   limits = h.limits;
   full = λ e. inr (image, is, h.full e);
 }

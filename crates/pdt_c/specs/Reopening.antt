@@ -1,5 +1,5 @@
 -- What is reopened on a stored image and a journal.
-use Rattle.std.specs.Prelude.{◌≡◌, ◌≢◌, ◌<◌, ◌^◌, ◌⊎◌, ℕ, ◌+◌, ◌-◌, true, false, List, Ok, length, map}
+use Rattle.std.specs.Prelude.{◌≡◌, ◌≢◌, ◌⊎◌, ℕ, ◌+◌, ◌-◌, true, false, List, Ok, length, map}
 use Rattle.codec.specs.Reading.{decoded}
 use Rattle.devices.specs.Stored.{stored_image}
 use Rattle.inputs.specs.Input.{IsFaultOf, IsTableOf}
@@ -105,16 +105,14 @@ pub record IsUnmade (image : Stable) (row_limit recent number table seed base : 
   pub limits : code ≡ BAD_LIMIT → is_bad_limit recent row_limit ≡ true
   pub full : code ≡ TOO_MANY_ROWS → IsOverfull image row_limit number table seed base frames
 
--- nothing is reopened, and each code has its cause: rot and a gap are told with the commit that is the first damaged or missing, where
--- the base is one that a journal has. Under the seed 0 no journal is
+-- nothing is reopened, and each code has its cause: rot and a gap are told with the commit that is the first damaged or missing
 pub record IsRefusal (header : List ℕ) (columns : List (List ℕ)) (row_limit recent number table seed base : ℕ) (frames : List ℕ)
     (code commit : ℕ) : Type 0 where
   pub some : code ≢ DONE
   pub rot : code ≡ ROT → IsTold (fault.Rot commit) base number (read_of seed (base + 1) frames)
-  pub gap : code ≡ GAP → base < 2 ^ 63 → IsTold (fault.Gap commit) base number (read_of seed (base + 1) frames)
+  pub gap : code ≡ GAP → IsTold (fault.Gap commit) base number (read_of seed (base + 1) frames)
   pub misfit :
-      code ≡ MISFIT
-      → (seed ≡ 0) ⊎ ((image : Stable) × IsImageIn header columns image × IsMisfitOf image number table seed base frames commit)
+      code ≡ MISFIT → (image : Stable) × IsImageIn header columns image × IsMisfitOf image number table seed base frames commit
   pub limits : code ≡ BAD_LIMIT → is_bad_limit recent row_limit ≡ true
   pub full :
       code ≡ TOO_MANY_ROWS

@@ -11,6 +11,7 @@ mod image_bytes;
 mod importing;
 mod ints;
 mod journal_files;
+mod journal_reading;
 mod journals;
 mod manifest_bytes;
 mod manifests;

@@ -4,6 +4,7 @@ pub(crate) mod decision;
 pub(crate) mod ended;
 pub(crate) mod held;
 pub(crate) mod image;
+pub(crate) mod journal_frames;
 pub(crate) mod layer;
 pub(crate) mod listed;
 pub(crate) mod next_table;

@@ -1,3 +1,5 @@
 mod FittingLemmas
+mod OwnLemmas
+mod PlaceLemmas
 mod RecoveryLemmas
 mod ReplayLemmas

@@ -105,7 +105,7 @@ has_prefix law decode schema seed base t commits safe number bytes rows m c imag
 take-all : {A : Type 0} (xs : List A) (n : ℕ) → n ≡ length xs → take n xs ≡ xs
 take-all xs n e = ap (λ m. take m xs) e ∙ take-length xs
 
-said_by_frames : {A : Type 0} (d : List ℕ → A) (frames : List Frame)
+pub said_by_frames : {A : Type 0} (d : List ℕ → A) (frames : List Frame)
     → map (λ l. d l.payload) (map logged_in frames) ≡ map (λ f. d f.payload.now) frames
 said_by_frames d [] = refl
 said_by_frames d (f ∷ frames) = ap (λ (es : List _). d f.payload.now ∷ es) (said_by_frames d frames)

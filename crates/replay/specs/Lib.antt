@@ -1,3 +1,4 @@
 pub mod Fitting
+pub mod Own
 pub mod Recovered
 pub mod Replayed

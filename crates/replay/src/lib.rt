@@ -6,11 +6,16 @@
 
 mod fault;
 mod fitting;
+mod journal_frames;
 mod laws;
 mod recovering;
+mod remaking;
 mod replaying;
+mod spots;
 
 pub use fault::{CommitFault, RecoverFault};
+pub use journal_frames::ReadFrames;
 pub use laws::recovery_is_a_prefix;
 pub use recovering::{FrameBytes, Image, Limits, Recovered, recover};
+pub use remaking::recover_read;
 pub use replaying::{replay, replay_commit};

@@ -147,7 +147,7 @@ pub fn recover(
 }
 
 /// The manager of an image.
-fn opened(alloc: Global, image: Image, limits: Limits) -> Result<Manager, RecoverFault>
+pub(crate) fn opened(alloc: Global, image: Image, limits: Limits) -> Result<Manager, RecoverFault>
     requires few { image.number ≤ 2 ^ 62 }
     ensures ok { IfOk result (λ manager. manager ≡ opened_at image.number image.table limits.row_limit limits.recent limits.conflicts) }
     ensures fault { IfErr result IsLate }
@@ -177,7 +177,7 @@ fn opened(alloc: Global, image: Image, limits: Limits) -> Result<Manager, Recove
 
 /// How many frames behind a base an image of this number has already, where those before the commit that is due were read; or the
 /// first commit that is missing, where they begin after the image or end before it.
-fn frames_before(base: u64, due: u64, number: u64) -> Result<usize, u64>
+pub(crate) fn frames_before(base: u64, due: u64, number: u64) -> Result<usize, u64>
     ensures ok { IfOk result (λ skipped. (base ≤ number) × (number < due) × (skipped ≡ number - base)) }
     ensures missing { IfErr result (λ n. IsMissing n base number due) }
 {

@@ -102,7 +102,8 @@ fn synced_before(number: u64) -> u64 {
 
 /// Bytes as the frames of a journal behind the commit of a number.
 pub(crate) fn frames_behind(base: u64, bytes: &[u8]) -> FrameBytes<'_>
-    ensures { result.base ≡ base }
+    ensures base { result.base ≡ base }
+    ensures bytes { result.bytes.now ≡ bytes.now }
 {
     FrameBytes {
         seed: SEED,

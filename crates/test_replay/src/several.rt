@@ -1,10 +1,13 @@
-//! Two tables whose commits are in the same frames.
+//! Two tables whose commits are in the same frames: each is recovered of its own parts, and of frames that were read once as of their
+//! bytes.
+ghost use Rattle.std.specs.Prelude.{◌≡◌};
+
 use crate::assertions::assert_at;
 use crate::histories::begun;
 use crate::journals::{Journal, commit_part, frames_behind};
 use crate::recoveries::{LIMITS, has_rows};
 use manager::Manager;
-use replay::{Image, recover};
+use replay::{Image, ReadFrames, Recovered, recover, recover_read};
 use std::alloc::Global;
 use std::process::Abort;
 use std::test::Fail;
@@ -102,6 +105,63 @@ fn is_recovered(
     )
 }
 
+/// The image of these rows, as that of a number.
+fn image_of(alloc: Global, rows: &[Item], number: u64) -> Result<Image, Fail> {
+    Ok(Image {
+        table: item_table(alloc, rows)?,
+        number,
+    })
+}
+
+/// Whether two managers have the same rows, numbers and whole bytes.
+fn are_same(alloc: Global, one: &Recovered, other: &Recovered) -> Result<bool, Fail> {
+    let rows = rows_of(alloc, &one.manager)?;
+    Ok(
+        one.whole == other.whole
+            && one.manager.version().number() == other.manager.version().number()
+            && one.manager.made() == other.manager.made()
+            && one.manager.floor() == other.manager.floor()
+            && has_rows(alloc, &other.manager, rows.as_slice())?,
+    )
+}
+
+/// Whether a table over the image of a number is recovered, or refused, of frames that were read as it is of their bytes.
+fn is_alike(
+    alloc: Global,
+    of: (u32, &[Item]),
+    number: u64,
+    frames: &ReadFrames,
+    bytes: &[u8],
+) -> Result<bool, Fail>
+    requires { bytes.now ≡ frames.now.bytes }
+{
+    let (table, rows) = of;
+    let image = image_of(alloc, rows, number)?;
+    let one = recover(alloc, image, LIMITS, table, frames_behind(0, bytes));
+    let image = image_of(alloc, rows, number)?;
+    let other = recover_read(alloc, image, LIMITS, table, frames, bytes);
+    match (one, other) {
+        (Ok(one), Ok(other)) => are_same(alloc, &one, &other),
+        (Err(one), Err(other)) => Ok(one == other),
+        _ => Ok(false),
+    }
+}
+
+/// That each table is recovered alike over the image of each number, a table that no frame has a part of among them.
+fn judge_read(rt: &impl Abort, alloc: Global, bytes: &[u8]) -> Result<(), Fail> {
+    let frames = ReadFrames::read(alloc, frames_behind(0, bytes))?;
+    for number in 0..COUNT.wrapping_mul(2) {
+        assert_at(rt, is_alike(alloc, LOW, number, &frames, bytes)?, number);
+        assert_at(rt, is_alike(alloc, HIGH, number, &frames, bytes)?, number);
+        assert_at(
+            rt,
+            is_alike(alloc, (7, LOW.1), number, &frames, bytes)?,
+            number,
+        );
+    }
+    Ok(())
+}
+
 /// That both tables are recovered.
 fn judge(rt: &impl Abort, alloc: Global, pair: &Pair) -> Result<(), Fail> {
     let bytes = pair.journal.bytes();
@@ -126,4 +186,24 @@ fn each_table_is_recovered_of_its_own_parts(rt: HostRuntime) -> Result<(), Fail>
     let mut pair = Pair::new(alloc)?;
     pair.log_all(alloc, &mut Draws::new(21))?;
     judge(&rt, alloc, &pair)
+}
+
+#[test]
+fn frames_that_are_read_once_recover_each_table_as_their_bytes_do(
+    rt: HostRuntime,
+) -> Result<(), Fail> {
+    let alloc = rt.alloc();
+    let mut pair = Pair::new(alloc)?;
+    let mut draws = Draws::new(22);
+    pair.log_all(alloc, &mut draws)?;
+    judge_read(&rt, alloc, pair.journal.bytes())?;
+
+    // A payload that can't be read as parts, and frames behind it.
+    pair.journal.push(&[0, 0, 0, 3, 0, 0, 0, 9])?;
+    pair.log_all(alloc, &mut draws)?;
+    judge_read(&rt, alloc, pair.journal.bytes())?;
+
+    // A frame that is torn.
+    let bytes = pair.journal.bytes();
+    judge_read(&rt, alloc, &bytes[..bytes.len().saturating_sub(5)])
 }

@@ -91,8 +91,7 @@ static int read_marked(int dir, const char *folder, int column, const pdti_manif
   return pdtr_has_mark(mark->size, mark->check, bytes_at(into->at, into->len), into->len) ? PDT_OK : PDT_CORRUPT;
 }
 
-int pdti_open_image(pdt_database *database, pdti_member *entry, uint64_t base, const pdti_buffer *frames, pdti_reopened *found,
-                    char *file) {
+int pdti_open_image(pdt_database *database, pdti_member *entry, pdti_frames *frames, pdti_reopened *found, char *file) {
   char folder[FILE_NAME];
   pdti_buffer header = {NULL, 0, 0}, columns[PDT_MAX_COLUMNS];
   pdti_slice slices[PDT_MAX_COLUMNS] = {{pdti_no_bytes, 0}};
@@ -109,8 +108,8 @@ int pdti_open_image(pdt_database *database, pdti_member *entry, uint64_t base, c
     const pdt_options *options = &entry->options;
     *file = 0; /* it isn't the image's, whatever comes */
     code = (int)pdtr_reopen(bytes_at(header.at, header.len), header.len, slices, entry->width, options->recent, options->row_limit,
-                            options->by_row, entry->image.number, entry->number, database->salt, base, bytes_at(frames->at, frames->len),
-                            frames->len, found, &table->raw);
+                            options->by_row, entry->image.number, entry->number, &frames->read, frames->at, frames->len, found,
+                            &table->raw);
     if (code) free(table);
   }
   free(header.at);

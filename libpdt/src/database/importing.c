@@ -96,9 +96,12 @@ static int open_run(const pdti_run_files *run, pdti_member *entry, pdt_report *r
   (void)pdti_options_of(NULL, &entry->options);
   pdti_reopened found = {0, 0, 0};
   size_t len = run->commits.len - JOURNAL_HEADER;
-  code = (int)pdtr_reopen(bytes_at(run->header.at, run->header.len), run->header.len, run->slices, run->width, entry->options.recent,
-                          entry->options.row_limit, entry->options.by_row, number, 0, run->logged.salt, run->logged.base,
-                          bytes_at(run->commits.at + JOURNAL_HEADER, len), len, &found, &table->raw);
+  pdti_frames frames = {{NULL}, bytes_at(run->commits.at + JOURNAL_HEADER, len), len};
+  code = (int)pdtr_frames_read(run->logged.salt, run->logged.base, frames.at, len, &frames.read);
+  if (!code)
+    code = (int)pdtr_reopen(bytes_at(run->header.at, run->header.len), run->header.len, run->slices, run->width, entry->options.recent,
+                            entry->options.row_limit, entry->options.by_row, number, 0, &frames.read, frames.at, len, &found, &table->raw);
+  if (frames.read.at) pdtr_frames_close(&frames.read);
   if (code) {
     free(table);
     report->fault = found.fault;

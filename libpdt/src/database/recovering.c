@@ -215,14 +215,12 @@ static int test_equal(const pdti_reopened *found, uint64_t newest, pdt_report *r
   return PDT_MISMATCH;
 }
 
-/* Opens the tables over their images, with the commits since. */
-static int open_tables(pdti_journal_read *read, uint64_t number, pdti_reopened *found, pdt_report *report) {
-  pdt_database *database = read->database;
-  uint64_t base = pdtr_journal_base(number, read->files, database->file_count);
+/* Opens each table over its image, with the commits since. */
+static int open_each(pdt_database *database, pdti_frames *frames, pdti_reopened *found, pdt_report *report) {
   uint64_t oldest = UINT64_MAX, newest = 0;
   for (size_t i = 0; i < database->count; i++) {
     pdti_member *entry = database->members[i];
-    int code = pdti_open_image(database, entry, base, &read->frames, found, report->file);
+    int code = pdti_open_image(database, entry, frames, found, report->file);
     if (!code) code = pdti_read_types(database, entry, report->file);
     if (!i) newest = found->newest;
     if (!code) code = test_equal(found, newest, report);
@@ -233,8 +231,23 @@ static int open_tables(pdti_journal_read *read, uint64_t number, pdti_reopened *
     report->file[0] = 0;
     if (entry->image.number < oldest) oldest = entry->image.number;
   }
-  if (database->count) report->replayed += found->newest - oldest;
+  report->replayed += found->newest - oldest;
   return PDT_OK;
+}
+
+/* Reads the frames once, and opens the tables on them. */
+static int open_tables(pdti_journal_read *read, uint64_t number, pdti_reopened *found, pdt_report *report) {
+  pdt_database *database = read->database;
+  if (!database->count) return PDT_OK;
+  uint64_t base = pdtr_journal_base(number, read->files, database->file_count);
+  pdti_frames frames = {{NULL}, bytes_at(read->frames.at, read->frames.len), read->frames.len};
+  int code = (int)pdtr_frames_read(database->salt, base, frames.at, frames.len, &frames.read);
+  if (code) return code;
+  code = open_each(database, &frames, found, report);
+  int why = errno;
+  pdtr_frames_close(&frames.read);
+  errno = why;
+  return code;
 }
 
 /* ---- where the journal goes on */

@@ -2,22 +2,20 @@
 ghost use Rattle.std.specs.Prelude.{◌≡◌, ◌≢◌, ◌<◌, ◌^◌, ◌+◌, false, IfErr, IfOk, IfSome, IsSome, map};
 ghost use Rattle.inputs.specs.Input.{IsFaultOf};
 ghost use Rattle.inputs.specs.declared.fault.TableFault.TheVariants as table_fault;
-ghost use Rattle.journal.specs.Header.{seed_of};
 ghost use Rattle.manager.specs.Managed.{newest_number};
 ghost use Rattle.pdt_c.specs.Opening.{rule_of};
 ghost use Rattle.pdt_c.specs.Reopening.{IsImageIn, IsImageUnder, IsRefusal, IsRemadeOf, IsReopenedOn, IsUnder, IsUnmade};
 ghost use Rattle.pdt_c.specs.declared.codes.TheConstants.{BAD_LIMIT, DONE, ROT, TOO_MANY_ROWS};
 
 use crate::calls::opening::rule_of;
-use crate::codes::{
-    DONE, GAP, MISFIT, NO_MEMORY, code_of_reading, code_of_recovery, code_of_table,
-};
+use crate::codes::{DONE, NO_MEMORY, code_of_reading, code_of_recovery, code_of_table};
+use crate::handles::journal_frames;
+use crate::handles::journal_frames::JournalFrames;
 use crate::handles::store::{Store, put};
 use devices::{StoredImage, read_store};
 use inputs::load_table;
-use journal::{NUMBER_LIMIT, seed_of};
 use manager::Manager;
-use replay::{FrameBytes, Image, Limits, Recovered, recover};
+use replay::{Image, Limits, ReadFrames, Recovered, recover_read};
 use stable::StableTable;
 use std::alloc::Global;
 use values::Schema;
@@ -48,9 +46,10 @@ struct Refusal {
     commit: u64,
 }
 
-/// Opens a manager over the image that columns store, which so many commits made, and the frames of a journal behind `base`,
-/// into a handle that holds nothing: each whole frame since the image is made again by its part of this table. The header is a
-/// text that begins with the names and the types of the columns. Nothing that is stored changes.
+/// Opens a manager over the image that columns store, which so many commits made, and the frames of a journal that were read,
+/// into a handle that holds nothing: each whole frame since the image is made again by its part of this table, in the time of the
+/// frames that have one. The header is a text that begins with the names and the types of the columns. The bytes of the frames are
+/// those that were read. Nothing that is stored changes.
 #[unsafe(no_mangle)]
 pub extern "C" fn pdtr_reopen(
     alloc: Global,
@@ -61,32 +60,38 @@ pub extern "C" fn pdtr_reopen(
     by_row: bool,
     number: u64,
     table: u32,
-    salt: u64,
-    base: u64,
+    read: &mut JournalFrames,
     frames: &[u8],
     reopened: &mut Reopened,
     store: &mut Store,
 ) -> u32
+    requires read { IsSome read.old.value }
+    requires same { IfSome read.old.value (λ r. frames.now ≡ r.bytes) }
+
     // Whatever the bytes are, it is the stored image with the frames since then; and wherever a crash fell, it is the table
     // after the first commits, as many as were safe, or more.
-    ensures done { result ≡ DONE → IfSome store.new.value (IsReopenedOn header.now (map (λ c. c.now) columns.now)
-        row_limit recent (rule_of by_row) number table (seed_of salt) base frames.now reopened.new.whole) }
+    ensures done { result ≡ DONE → IfSome read.old.value (λ r. IfSome store.new.value (IsReopenedOn header.now (map (λ c. c.now) columns.now)
+        row_limit recent (rule_of by_row) number table r.seed r.base r.bytes reopened.new.whole)) }
     ensures newest { result ≡ DONE → IfSome store.new.value (λ m. reopened.new.newest ≡ newest_number m) }
     ensures held { result ≡ DONE → IsSome store.new.value }
 
     // No rot and no gap is passed over, and each code has its cause.
-    ensures refused { result ≢ DONE → IsRefusal header.now (map (λ c. c.now) columns.now) row_limit recent number table (seed_of salt) base
-        frames.now result reopened.new.fault }
+    ensures refused { result ≢ DONE → IfSome read.old.value (λ r. IsRefusal header.now (map (λ c. c.now) columns.now) row_limit recent
+        number table r.seed r.base r.bytes result reopened.new.fault) }
     ensures kept { result ≢ DONE → store.new.value ≡ store.old.value }
+    ensures lent { read.new.value ≡ read.old.value }
 {
     let limits = Limits {
         row_limit,
         recent,
         conflicts: rule_of(by_row),
     };
-    match reopen(
-        alloc, header, columns, number, limits, table, salt, base, frames,
-    ) {
+    let given = journal_frames::take(alloc, read);
+    let found = reopen(
+        alloc, header, columns, number, limits, table, &given, frames,
+    );
+    journal_frames::put(read, given);
+    match found {
         Ok(reopening) => {
             let Reopening { manager, whole } = reopening;
             *reopened = Reopened {
@@ -116,14 +121,14 @@ fn reopen(
     number: u64,
     limits: Limits,
     table: u32,
-    salt: u64,
-    base: u64,
+    read: &ReadFrames,
     frames: &[u8],
 ) -> Result<Reopening, Refusal>
+    requires same { frames.now ≡ read.now.bytes }
     ensures ok { IfOk result (λ r. IsReopenedOn header.now (map (λ c. c.now) columns.now) limits.row_limit limits.recent limits.conflicts
-        number table (seed_of salt) base frames.now r.whole r.manager.value) }
+        number table read.now.seed read.now.base read.now.bytes r.whole r.manager.value) }
     ensures err { IfErr result (λ e. IsRefusal header.now (map (λ c. c.now) columns.now) limits.row_limit limits.recent number table
-        (seed_of salt) base frames.now e.code e.commit) }
+        read.now.seed read.now.base read.now.bytes e.code e.commit) }
 {
     let image = match image_in(alloc, header, columns) {
         Ok(image) => Image {
@@ -132,26 +137,7 @@ fn reopen(
         },
         Err(code) => return Err(Refusal { code, commit: 0 }),
     };
-    if base >= NUMBER_LIMIT {
-        return Err(Refusal {
-            code: GAP,
-            commit: 0,
-        });
-    }
-    let seed = seed_of(salt);
-    // Under this seed zeros read as frames, so that no journal has it.
-    if seed == 0 {
-        return Err(Refusal {
-            code: MISFIT,
-            commit: 0,
-        });
-    }
-    let frames = FrameBytes {
-        seed,
-        base,
-        bytes: frames,
-    };
-    remade(alloc, image, limits, table, frames)
+    remade(alloc, image, limits, table, read, frames)
 }
 
 /// The manager of an image, with the commits since then made again.
@@ -160,16 +146,17 @@ fn remade(
     image: Image,
     limits: Limits,
     table: u32,
-    frames: FrameBytes<'_>,
+    read: &ReadFrames,
+    frames: &[u8],
 ) -> Result<Reopening, Refusal>
-    requires base { frames.base < 2 ^ 63 }
-    ensures ok { IfOk result (λ r. IsRemadeOf image.table image.number table frames.entry.seed frames.entry.base frames.entry.bytes.now
+    requires same { frames.now ≡ read.now.bytes }
+    ensures ok { IfOk result (λ r. IsRemadeOf image.table image.number table read.now.seed read.now.base read.now.bytes
         r.whole r.manager.value) }
     ensures under { IfOk result (λ r. IsUnder limits.row_limit limits.recent limits.conflicts r.manager.value) }
-    ensures err { IfErr result (λ e. IsUnmade image.table limits.row_limit limits.recent image.number table frames.entry.seed
-        frames.entry.base frames.entry.bytes.now e.code e.commit) }
+    ensures err { IfErr result (λ e. IsUnmade image.table limits.row_limit limits.recent image.number table read.now.seed
+        read.now.base read.now.bytes e.code e.commit) }
 {
-    match recover(alloc, image, limits, table, frames) {
+    match recover_read(alloc, image, limits, table, read, frames) {
         Ok(recovered) => counting(alloc, recovered),
         Err(fault) => {
             let (code, commit) = code_of_recovery(fault);

@@ -7,12 +7,12 @@ use Rattle.pdt_c.proofs.calls.reopening.remade.Goals as goal
 pub returns-in-Ok-clause-ok : goal.returns-in-Ok-clause-ok
 returns-in-Ok-clause-ok c =
     let image = c.args.image in
-    let frames = c.args.frames in
+    let read = c.args.read.now in
     let m = c.in-Ok.recovered.manager in
     let found = c.in-Ok.ensures in
     ok_then (λ (r : Reopening). (r.manager.value ≡ counting m) × (r.whole ≡ c.in-Ok.recovered.whole))
-    (λ (r : Reopening). IsRemadeOf image.table image.number c.args.table frames.seed frames.base frames.bytes.now r.whole r.manager.value)
-    (λ r h. remade_of image.table image.number c.args.table frames.seed frames.base frames.bytes.now r.whole m r.manager.value
+    (λ (r : Reopening). IsRemadeOf image.table image.number c.args.table read.seed read.base read.bytes r.whole r.manager.value)
+    (λ r h. remade_of image.table image.number c.args.table read.seed read.base read.bytes r.whole m r.manager.value
     found.schema found.rows found.number found.newest (h.1 ∙ found.whole) found.ending found.reached found.read found.prefix h.0)
     c.counting.result c.counting.ensures.ok
 
@@ -28,11 +28,11 @@ returns-in-Ok-clause-under c =
 pub returns-in-Err-clause-err : goal.returns-in-Err-clause-err
 returns-in-Err-clause-err c =
     let image = c.args.image in
-    let frames = c.args.frames in
+    let read = c.args.read.now in
     let limits = c.args.limits in
     let found = c.in-Err.ensures in
     let is = c.code_of_recovery-code.ensures in
-    subst (λ (t : ℕ × ℕ). IsUnmade image.table limits.row_limit limits.recent image.number c.args.table frames.seed frames.base frames.bytes.now t.0 t.1)
+    subst (λ (t : ℕ × ℕ). IsUnmade image.table limits.row_limit limits.recent image.number c.args.table read.seed read.base read.bytes t.0 t.1)
     (sym is)
-    (unmade_of image.table limits.row_limit limits.recent image.number c.args.table frames.seed frames.base frames.bytes.now c.in-Err.fault
+    (unmade_of image.table limits.row_limit limits.recent image.number c.args.table read.seed read.base read.bytes c.in-Err.fault
     found.fault found.caused found.named found.sound)
