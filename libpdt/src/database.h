@@ -1,7 +1,7 @@
 /* What the files of a database share: the object, its journal, its images and who may do what to them.
 
-   Locks, in the order in which they are taken: `round_lock`, `files_lock`, the lock of the tables, `turn_lock`, `fresh_lock`. A begin
-   takes the last one alone. Whoever writes the journal has the turn, and holds no lock while it writes. */
+   Locks, in the order in which they are taken: `round_lock`, `files_lock`, the lock of the tables, `journal_lock`, `fresh_lock`. A begin
+   takes the last one alone. No thread holds a lock while it writes or syncs the journal. */
 #ifndef PDT_DATABASE_H
 #define PDT_DATABASE_H
 
@@ -30,8 +30,9 @@ typedef struct {
   uint64_t bytes; /* how many it has: 0 before the first frame is written, when it has no header and no base either */
 } pdti_journal_file;
 
-/* How many files a journal may have, the bytes of its header and of a frame's head, and what a CRC-32C begins with. */
-enum { JOURNAL_FILES = 4096, JOURNAL_HEADER = 36, FRAME_HEAD = 28, CHECK_SEED = -1 };
+/* How many files a journal may have, the bytes of its header and of a frame's head, room for what is written together, and what a CRC-32C
+   begins with. */
+enum { JOURNAL_FILES = 4096, JOURNAL_HEADER = 36, FRAME_HEAD = 28, WRITE_ROOM = 1 << 16, CHECK_SEED = -1 };
 
 /* An image of a table. */
 typedef struct {
@@ -60,37 +61,32 @@ struct pdt_database {
   pid_t process;                /* which opened it */
   const volatile bool *is_ours; /* whether this is that one: on a page that the kernel wipes in a child, or null where it can't */
 
-  /* changed under files_lock and both of `locks` and with the turn, and read with any of the four */
+  /* changed under files_lock and both of `locks`, and read with any of the three */
   pdti_member **members;
-  pdt_table **batch;       /* the tables that the commits of a batch have changed, and what is replaced of each: of the thread that has */
-  pdti_replaced *replaced; /* the turn, with room for all tables */
-  size_t batch_count;
   size_t count, room;
   atomic_size_t dbtxns; /* how many are open */
 
   /* under the lock of the tables */
-  uint64_t newest;     /* the number of the newest commit */
-  pdti_buffer pending; /* the frames that nobody has written yet, each without its head: room for it, then its payload */
-  size_t staged;       /* how many bytes after those are a frame that isn't one yet */
-  bool takes_none;     /* the device has failed */
-  pdt_table *changed;  /* the tables with commits that no batch has taken yet, where begins see them once they are durable */
+  uint64_t newest;        /* the number of the newest commit that is installed */
+  size_t staged, waiting; /* how many bytes the parts of the last commit that was added have, and of those that no batch has */
+  pdt_table *changed;     /* the tables with commits that no batch has taken yet, where begins see them once they are durable */
 
-  /* of the thread that has the turn */
-  pdti_buffer writing;
-  int file;                               /* the last one of the journal: changed under turn_lock too, by the thread that syncs */
-  pdti_journal_file files[JOURNAL_FILES]; /* changed under turn_lock too */
+  /* under journal_lock */
+  pthread_mutex_t journal_lock;
+  pthread_cond_t journal_moves; /* a step was reported */
+  pdti_handle journal;          /* its steps: an append begins under the lock of the tables too */
+  pdti_journal_numbers at;      /* what it has told last */
+  pdti_journal_file files[JOURNAL_FILES];
   size_t file_count;
-
-  /* under turn_lock */
-  pthread_mutex_t turn_lock;
-  pthread_cond_t turn_ends;
-  bool is_led;               /* a thread has the turn */
-  bool is_syncing;           /* a thread syncs the file, or switches to the next one */
-  bool has_failed;           /* the device has */
-  uint64_t written, durable; /* the newest commit that the kernel has, and that the device has */
   uint64_t batches, syncs;
-  int next_file; /* the journal's next file, once its name is durable: the thread with the turn switches to it */
-  uint64_t next_seq;
+  atomic_bool has_failed; /* no commit is taken any more: read without the lock */
+
+  /* of the thread whose append or sync is under way */
+  pdti_handle batch;   /* the commits that are appended */
+  uint8_t *write_room; /* what is written together */
+  pdt_table *leaving;  /* the tables that the batch has changed, where begins see them once they are durable */
+  int file;            /* the last one of the journal: changed under journal_lock, while neither is under way */
+  int next_file;       /* the one after it, of the thread that makes it */
 
   atomic_uint_fast64_t published; /* the newest commit that begins may see; changed under fresh_lock */
 
@@ -117,11 +113,9 @@ struct pdt_database {
 
 /* ---- journals.c */
 
-/* Puts the frame of prepared commits after the pending ones, which makes it none of them yet. The transactions are in the order of
-   their tables' numbers. Under the lock, as is the next. */
-int pdti_stage(pdt_database *database, pdt_txn *const *txns, size_t count);
-/* Makes it one of them, and answers its number. Nothing of it can fail. */
-uint64_t pdti_append(pdt_database *database);
+/* Adds one commit of prepared ones to the journal, and gives its number: no batch takes it while the lock is held. The transactions are in the
+   order of their tables' numbers. Under the lock. */
+int pdti_stage(pdt_database *database, pdt_txn *const *txns, size_t count, uint64_t *number);
 /* Whether begins see a commit only once it is durable. */
 bool pdti_hides(const pdt_database *database);
 /* Enters a table that a commit has changed among those whose versions the next batch takes. Under the lock. */
@@ -133,9 +127,13 @@ int pdti_wait_for(pdt_database *database, uint64_t number);
 /* Writes what is pending and, if it is asked for, has the device take all that was written. */
 int pdti_flush(pdt_database *database, bool syncs);
 
-/* Waits until nobody writes, and nobody does until the turn ends: the tables may be changed then. */
-void pdti_take_turn(pdt_database *database);
-void pdti_end_turn(pdt_database *database);
+/* The newest commit that is durable. */
+uint64_t pdti_durable(pdt_database *database);
+
+/* Opens the steps of a journal whose files are known and whose commits up to a number are durable. What it has made stays for the other call,
+   also where it fails. PDT_NOMEM. */
+int pdti_open_journal(pdt_database *database, uint64_t newest);
+void pdti_close_journal(pdt_database *database);
 
 /* The name of a file of the journal, for which there is room for FILE_NAME bytes. */
 void pdti_name_journal(char *name, uint64_t seq);
@@ -240,8 +238,8 @@ int pdti_open_folder(pdt_database *database, pdt_report *report);
 
 /* ---- importing.c: folders that the program has made */
 
-/* Whether the folder has files of a run with a journal. */
-bool pdti_has_run(const pdt_database *database);
+/* Says whether the folder has files of a run with a journal. PDT_IO. */
+int pdti_find_run(const pdt_database *database, bool *has_run);
 
 /* Makes a database of them in the folder, which has no manifest: it has one afterwards. Where it fails the files stay as they were, and
    the next opening does it from the beginning. */
@@ -278,8 +276,10 @@ void pdti_remove_types(pdt_database *database, uint32_t member);
 
 /* ---- databases.c */
 
-/* Makes room for one table more, which a database that nobody else has yet may be given. */
+/* Makes room for one table more, and puts it into the list by its number: tables that were begun earlier may be made later. The last does
+   both, of a database that nobody else has yet. */
 int pdti_reserve_entry(pdt_database *database);
+void pdti_place_entry(pdt_database *database, pdti_member *entry);
 int pdti_add_entry(pdt_database *database, pdti_member *entry);
 void pdti_free_entry(pdti_member *entry);
 

@@ -203,7 +203,36 @@ extern uint64_t pdtr_journal_base(uint64_t, const pdti_segment *, size_t);
 extern uint32_t pdtr_journal_end(const pdti_segment *, size_t, uint64_t, uint64_t, uint64_t, pdti_journal_end *);
 extern bool pdtr_has_frames(uint64_t, uint64_t, const uint8_t *, size_t);
 extern bool pdtr_frame_head(uint64_t, uint64_t, uint64_t, const uint8_t *, size_t, uint8_t *, size_t);
-extern uint32_t pdtr_part(pdti_handle *, pdti_handle *, pdti_handle *, uint32_t, pdti_handle *);
+
+/* its steps: the exports tell which is due, and are told how it went. A goal is 1 for a commit that is to be written, 2 for a durable one */
+typedef struct {
+  uint64_t newest, written, durable, file, first_file;
+  bool has_failed;
+} pdti_journal_numbers;
+typedef struct {
+  const uint8_t *at;
+  size_t len;
+} pdti_piece;
+extern uint32_t pdtr_journal_open(uint64_t, uint64_t, uint64_t, uint64_t, uint64_t, uint64_t, pdti_handle *);
+extern void pdtr_journal_close(pdti_handle *);
+extern void pdtr_journal_numbers(pdti_handle *, pdti_journal_numbers *);
+extern uint32_t pdtr_stage(pdti_handle *, pdti_handle *, pdti_handle *, uint32_t, pdti_handle *, uint64_t *);
+extern void pdtr_unstage(pdti_handle *);
+extern uint32_t pdtr_add(pdti_handle *, uint64_t *);
+extern void pdtr_withdraw(pdti_handle *);
+extern void pdtr_stop(pdti_handle *);
+extern void pdtr_want_next(pdti_handle *);
+extern bool pdtr_remove_oldest(pdti_handle *, uint64_t *);
+extern uint32_t pdtr_due(pdti_handle *, uint32_t);
+extern uint32_t pdtr_next_batch(pdti_handle *, uint64_t *, pdti_handle *);
+extern uint32_t pdtr_next(pdti_handle *, uint32_t, uint64_t *);
+extern void pdtr_done(pdti_handle *, uint32_t);
+extern void pdtr_failed(pdti_handle *, uint32_t);
+extern uint32_t pdtr_batch_new(pdti_handle *);
+extern void pdtr_batch_close(pdti_handle *);
+extern void pdtr_batch_end(pdti_handle *);
+extern size_t pdtr_seal(pdti_handle *, uint8_t *, size_t);
+extern size_t pdtr_batch_frames(pdti_handle *, size_t, pdti_piece *, size_t);
 extern uint32_t pdtr_frames_read(uint64_t, uint64_t, const uint8_t *, size_t, pdti_handle *);
 extern void pdtr_frames_close(pdti_handle *);
 extern uint32_t pdtr_reopen(const uint8_t *, size_t, const pdti_slice *, size_t, size_t, uint64_t, bool, uint64_t, uint32_t, pdti_handle *,
@@ -229,6 +258,11 @@ typedef struct {
 
 typedef struct pdti_member pdti_member;
 typedef struct pdti_commit pdti_commit;
+
+/* Versions that begins took and take no more: they are let go of without a lock. */
+typedef struct {
+  pdti_handle at[3];
+} pdti_replaced;
 
 struct pdt_table {
   pdti_handle raw;
@@ -270,6 +304,8 @@ struct pdt_table {
   uint64_t leaving_newest; /* the number of the newest one among those: malloc may have refused to share that */
   pdt_table *next_changed; /* of a database's, under the lock: in the list of those with commits that no batch has taken yet */
   bool is_changed;
+  pdt_table *next_leaving; /* in the list of those that a batch has changed, of the thread that writes it, with what is replaced then */
+  pdti_replaced replaced;
   pthread_cond_t moved;          /* the number has grown */
   size_t waiting;                /* how many threads wait for that */
   pdt_pinned *oldest, *youngest; /* the pins, in the order of their numbers */
@@ -285,11 +321,10 @@ struct pdt_txn {
   uint64_t version_seen; /* the number of the table that it sees */
   bool is_prepared;      /* its commit is */
   pdti_handle decision;  /* of a prepared commit: the table's lock is held then. Nothing where it changes nothing */
-  pdti_handle part;      /* what a frame of its database's journal says of it */
-  size_t part_bytes;
-  pdti_handle ended; /* once it is over: all that it had, and what its commit has replaced */
-  pthread_t by;      /* the thread that prepared it, and holds the lock */
-  pid_t process;     /* of that thread: a child of fork has a thread of the same name, and no lock */
+  size_t part_bytes;     /* of what a frame of its database's journal says of it */
+  pdti_handle ended;     /* once it is over: all that it had, and what its commit has replaced */
+  pthread_t by;          /* the thread that prepared it, and holds the lock */
+  pid_t process;         /* of that thread: a child of fork has a thread of the same name, and no lock */
 };
 
 struct pdt_pinned {
@@ -322,11 +357,6 @@ static inline void look_again(void) {
   __builtin_ia32_pause();
 #endif
 }
-
-/* Versions that begins took and take no more: they are let go of without a lock. */
-typedef struct {
-  pdti_handle at[3];
-} pdti_replaced;
 
 /* Whether the newest table has a commit that a crash could take away, so that begins don't see it yet. */
 bool pdti_is_hidden(const pdt_table *table);
@@ -393,12 +423,12 @@ int pdti_make_lock(pthread_mutex_t *lock);
 /* Commits a transaction over one of its tables; what pdt_commit answers. */
 int pdti_commit_in(pdt_database *database, pdt_txn *txn, uint64_t *commits);
 
-/* Under the lock: whether it takes commits; the frame of a prepared one, whose number it answers; and what that is given up by. */
+/* Under the lock: whether it takes commits; adds a prepared one to the journal, and gives its number; and takes that back. */
 int pdti_may_commit(const pdt_database *database);
 int pdti_stage_one(pdt_database *database, pdt_txn *txn, uint64_t *number);
 void pdti_unstage(pdt_database *database);
 
-/* Installs what is staged, gives the lock back, and waits as the database's sync says. */
+/* Installs what was added, gives the lock back, and waits as the database's sync says. */
 int pdti_install_in(pdt_database *database, pdt_txn *txn);
 
 /* The newest commit. Under the lock. */

@@ -12,7 +12,7 @@ use Rattle.journal.specs.Laws.{AHeaderReadsBack, AJournalSurvives}
 use Rattle.journal.specs.declared.fault.HeaderFault.{HeaderFault}
 use Rattle.journal_steps.specs.Laws.{IsNoChance, IsNoHeaderByChance, ReadsAfterACrash, Survives, frames_left}
 use Rattle.journal_steps.specs.Progress.{header_from}
-use Rattle.journal_steps.specs.World.{AllBeside, Beside, IsBesideBy, World, Segment, Event, Add, Want, Begin, Done, Fail, Remove, all_logged, frames_behind, frames_in, happens, joined, journal_name, run, stripped, stripped_then}
+use Rattle.journal_steps.specs.World.{Withdraw, AllBeside, Beside, IsBesideBy, World, Segment, Event, Add, Want, Begin, Done, Fail, Remove, Stop, all_logged, frames_behind, frames_in, happens, joined, journal_name, run, stripped, stripped_then}
 use Rattle.journal_steps.specs.Sound.{AreClosed, Holds, IsNoneOrEmpty, file_bytes}
 use Rattle.journal_steps.proofs.BeginLemmas.{holds_begin}
 use Rattle.journal_steps.proofs.BesideLemmas.{holds_beside}
@@ -21,12 +21,14 @@ use Rattle.journal_steps.proofs.DoneLemmas.{holds_done}
 use Rattle.journal_steps.proofs.DueLemmas.{true_false}
 use Rattle.journal_steps.proofs.FailLemmas.{holds_fail}
 use Rattle.journal_steps.proofs.FileLemmas.{length-header}
-use Rattle.journal_steps.proofs.WishLemmas.{holds_add, holds_remove, holds_want}
+use Rattle.journal_steps.proofs.WishLemmas.{holds_add, holds_remove, holds_stop, holds_want, holds_withdraw}
 
 -- ---- whatever happens
 
 pub holds_happens : (w : World) (e : Event) → IsBesideBy w e → Holds w → Holds (happens w e)
 holds_happens w (Add payload) b h = holds_add w payload h
+holds_happens w Withdraw b h = holds_withdraw w h
+holds_happens w Stop b h = holds_stop w h
 holds_happens w Want b h = holds_want w h
 holds_happens w (Begin l) b h = holds_begin l w h
 holds_happens w (Done l) b h = holds_done l w h

@@ -1,7 +1,7 @@
 -- What is durable stays so, and is read after a crash.
 use Rattle.std.proofs.Common.{◌≡◌, ◌≤◌, ◌<◌, ◌^◌, ℕ, ◌+◌, Bool, true, false, cond, eqb, ltb, Option, Some, None, List, [], ◌∷◌, ◌++◌, refl, ap, arith}
 use Rattle.journal_steps.specs.Progress.{Progress, broken_by, due, finished, may_add, oldest, prepared_by, synced_by, turned, turns, unprepared_by, unsynced_by, wanted_by}
-use Rattle.journal_steps.specs.World.{AllBeside, Beside, Event, Add, Want, Begin, Done, Fail, Remove, Segment, World, begins, done_disk, happens, removes, run}
+use Rattle.journal_steps.specs.World.{Withdraw, AllBeside, Beside, Event, Add, Want, Begin, Done, Fail, Remove, Stop, Segment, World, begins, done_disk, happens, removes, run}
 use Rattle.journal_steps.specs.Sound.{Holds, IsSyncing}
 use Rattle.journal_steps.specs.declared.step.Ahead.{Ahead}
 use Rattle.journal_steps.specs.declared.step.Ahead.TheVariants.{NotWanted, Wanted, Making, Made, Keeping, Kept}
@@ -89,6 +89,8 @@ removed_durable (Some seq) (s ∷ ss) w = refl
 
 happens_later : (w : World) (e : Event) → Holds w → w.progress.durable ≤ (happens w e).progress.durable
 happens_later w (Add payload) h = omega (arith, added_durable (may_add payload w.progress) payload w.progress)
+happens_later w Withdraw h = omega arith
+happens_later w Stop h = omega arith
 happens_later w Want h = omega (arith, wanted_durable w.progress.ahead w.progress)
 happens_later w (Begin l) h = omega (arith, begin_durable (due l w.progress) w)
 happens_later w (Done l) h =

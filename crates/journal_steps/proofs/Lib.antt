@@ -1,3 +1,4 @@
+pub mod BatchLemmas
 pub mod BeginLemmas
 pub mod BesideLemmas
 pub mod ChainLemmas

@@ -182,7 +182,11 @@ removes_closed true [] w e is = absurd (omega (arith, ltb-true w.progress.first 
 removes_closed true (s ∷ ss) w e is = refl
 
 pub the_world_does_what_is_told : TheWorldDoesWhatIsTold
-the_world_does_what_is_told w l taken h = (
+the_world_does_what_is_told w l taken payload h = (
+  refl,
+  refl,
+  refl,
+  refl,
   begin_progress (due l w.progress) w,
   begin_disk (due l w.progress) w,
   closes_progress (record w { disk = done_disk l w; progress = finished l w.progress }),

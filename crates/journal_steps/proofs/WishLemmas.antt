@@ -1,11 +1,11 @@
 -- A commit that is added, a new file that is wanted, and an old one that is removed keep what holds of a journal on a disk.
-use Rattle.std.proofs.Common.{◌≡◌, ◌≢◌, ◌≤◌, ◌<◌, ◌^◌, ℕ, zero, suc, ◌+◌, Bool, true, false, cond, eqb, ltb, Option, Some, None, List, [], ◌∷◌, ◌++◌, length, refl, sym, ap, subst, ◌∙◌, append_assoc, arith}
+use Rattle.std.proofs.Common.{◌≡◌, ◌≢◌, ◌≤◌, ◌<◌, ◌^◌, ℕ, zero, suc, ◌+◌, ◌-◌, Bool, true, false, cond, eqb, ltb, Option, Some, None, List, [], ◌∷◌, ◌++◌, length, take, refl, sym, ap, subst, ◌∙◌, append_assoc, arith}
 use Rattle.std.proofs.lemmas.Bool.{ltb-true}
-use Rattle.std.proofs.lemmas.List.{length-append}
+use Rattle.std.proofs.lemmas.List.{length-append, length-take}
 use Rattle.disk.specs.Disk.{Disk, linked, named}
 use Rattle.disk.proofs.StepLemmas.{at_other, linked_other}
 use Rattle.journal_steps.specs.Batch.{HaveSizes}
-use Rattle.journal_steps.specs.Progress.{added, oldest, wanted, wanted_by}
+use Rattle.journal_steps.specs.Progress.{added, oldest, stopped, wanted, wanted_by, withdrawn}
 use Rattle.journal_steps.specs.World.{Segment, World, frames_in, journal_name, removes}
 use Rattle.journal_steps.specs.Sound.{AreNumbered, Core, Holds, IsAsked, IsComing, IsMade, IsNext}
 use Rattle.journal_steps.specs.declared.step.Ahead.{Ahead}
@@ -15,7 +15,7 @@ use Rattle.journal_steps.proofs.FileLemmas.{empty_names}
 
 -- ---- a commit
 
-sizes_more : (ps : List (List ℕ)) (p : List ℕ) → HaveSizes ps → length p < 2 ^ 32 → HaveSizes (ps ++ p ∷ [])
+pub sizes_more : (ps : List (List ℕ)) (p : List ℕ) → HaveSizes ps → length p < 2 ^ 32 → HaveSizes (ps ++ p ∷ [])
 sizes_more [] p all lt = (lt, tt)
 sizes_more (q ∷ ps) p all lt = (all.0, sizes_more ps p all.1 lt)
 
@@ -55,6 +55,32 @@ add_size true w payload e h =
 
 pub holds_add : (w : World) (payload : List ℕ) → Holds w → Holds (record w { progress = added payload w.progress })
 holds_add w payload h = add_size (ltb (length payload) (2 ^ 32)) w payload refl h
+
+pub sizes_fewer : (n : ℕ) (ps : List (List ℕ)) → HaveSizes ps → HaveSizes (take n ps)
+sizes_fewer zero ps all = tt
+sizes_fewer (suc n) [] all = tt
+sizes_fewer (suc n) (p ∷ ps) all = (all.0, sizes_fewer n ps all.1)
+
+pub holds_withdraw : (w : World) → Holds w → Holds (record w { progress = withdrawn w.progress })
+holds_withdraw w h =
+    let ps = w.progress.waiting in
+    with_waiting w (take (length ps - 1) ps) (omega (arith, h.ready.numbers, length-take (length ps - 1) ps))
+    (sizes_fewer (length ps - 1) ps h.ready.sizes) h
+
+-- ---- no step any more
+
+pub holds_stop : (w : World) → Holds w → Holds (record w { progress = stopped w.progress })
+holds_stop w h =
+    record {
+      ready = record { header = h.ready.header; numbers = h.ready.numbers; sizes = h.ready.sizes; files = h.ready.files };
+      core = h.core;
+      durable_written = h.durable_written;
+      written_taken = h.written_taken;
+      whole = tt;
+      appending = h.appending;
+      syncing = h.syncing;
+      coming = h.coming;
+    }
 
 -- ---- a new file
 

@@ -1,5 +1,5 @@
 -- Commits that are appended to a journal's file together.
-use Rattle.std.specs.Prelude.{ℕ, ◌+◌, ◌<◌, ◌≤◌, ◌^◌, Option, Some, None, List, [], ◌∷◌, ◌++◌, length}
+use Rattle.std.specs.Prelude.{ℕ, ◌+◌, ◌<◌, ◌≤◌, ◌^◌, Option, Some, None, List, [], ◌∷◌, ◌++◌, length, drop}
 use Rattle.std.specs.List.{AllByRecursion}
 use Rattle.journal.specs.Frame.{Logged, journal_bytes}
 use Rattle.journal.specs.Header.{HeaderFields, header_bytes}
@@ -33,6 +33,27 @@ batch_bytes b = header_part b.header ++ journal_bytes b.seed (batch_frames b)
 
 abbrev pub HaveSizes : List (List ℕ) → Type 0
 HaveSizes payloads = AllByRecursion (λ payload. length payload < 2 ^ 32) payloads
+
+-- the payload of a frame, which is behind its head
+abbrev pub payload_in : List ℕ → List ℕ
+payload_in frame = drop 28 frame
+
+-- each frame has room for its head
+abbrev pub HaveRooms : List (List ℕ) → Type 0
+HaveRooms frames = AllByRecursion (λ frame. 28 ≤ length frame) frames
+
+-- lists one behind the other
+abbrev pub together : List (List ℕ) → List ℕ
+together [] = []
+together (b ∷ bs) = b ++ together bs
+
+-- the header of a batch whose heads are filled, and its frames
+pub record SealedFields : Type 0 where
+  pub header : Option HeaderFields
+  pub frames : List (List ℕ)
+
+abbrev pub sealed_bytes : SealedFields → List ℕ
+sealed_bytes s = header_part s.header ++ together s.frames
 
 -- it can be spelt
 pub record IsBatch (b : BatchFields) : Type 0 where

@@ -5,13 +5,13 @@ use Rattle.journal.specs.Crash.{IsLeft, ReadsAsWholeFrames, bytes_after, whole_i
 use Rattle.journal.specs.Frame.{AreLogged, Logged, journal_bytes}
 use Rattle.journal.specs.Header.{HeaderFields, IsHeader, header_bytes, header_in, seed_of}
 use Rattle.journal.specs.Reading.{frame_at, has_witness}
-use Rattle.journal_steps.specs.Progress.{Progress, began, broken_by, due, ended, header_from, oldest, removed}
+use Rattle.journal_steps.specs.Progress.{Progress, added, began, broken_by, due, ended, header_from, oldest, removed, stopped, wanted, withdrawn}
 use Rattle.journal_steps.specs.declared.step.Ahead.{Ahead}
 use Rattle.journal_steps.specs.declared.step.Ahead.TheVariants.{NotWanted, Wanted}
 use Rattle.journal_steps.specs.declared.step.Lane.TheVariants as lane
 use Rattle.journal_steps.specs.declared.step.Lane.{Lane}
 use Rattle.journal_steps.specs.Sound.{Holds, file_bytes}
-use Rattle.journal_steps.specs.World.{AllBeside, Begin, Done, Event, Fail, Remove, Segment, World, all_logged, disk_by, frames_in, happens, joined, journal_name, new_file, new_world, reopened_world, run}
+use Rattle.journal_steps.specs.World.{Add, AllBeside, Begin, Done, Event, Fail, Remove, Segment, Stop, Want, Withdraw, World, all_logged, disk_by, frames_in, happens, joined, journal_name, new_file, new_world, reopened_world, run}
 
 -- the premise on a header's check: the bytes of a file begin with the header that was written, or read as no header
 abbrev pub IsNoHeaderByChance : HeaderFields → List ℕ → Type 0
@@ -97,8 +97,12 @@ TheJournalGoesOn =
 -- What the world makes of an event is what the calls are proved to make of it, and its disk changes by the step that is told.
 abbrev pub TheWorldDoesWhatIsTold : Type 0
 TheWorldDoesWhatIsTold =
-    (w : World) (l : Lane) (taken : ℕ) → Holds w
-    → ((happens w (Begin l)).progress ≡ began (due l w.progress) w.progress)
+    (w : World) (l : Lane) (taken : ℕ) (payload : List ℕ) → Holds w
+    → ((happens w (Add payload)).progress ≡ added payload w.progress)
+    × ((happens w Withdraw).progress ≡ withdrawn w.progress)
+    × ((happens w Stop).progress ≡ stopped w.progress)
+    × ((happens w Want).progress ≡ wanted w.progress)
+    × ((happens w (Begin l)).progress ≡ began (due l w.progress) w.progress)
     × ((happens w (Begin l)).disk ≡ disk_by (due l w.progress) w.file w.disk)
     × ((happens w (Done l)).progress ≡ ended l w.progress)
     × ((happens w (Fail l taken)).progress ≡ broken_by l w.progress)

@@ -1,9 +1,11 @@
 -- How far a journal has come, which step is due in each lane, and what each event makes of it.
-use Rattle.std.specs.Prelude.{ℕ, ◌+◌, ◌<◌, ◌≤◌, ◌^◌, ◌==◌, nat_lt, nat_le, Bool, true, false, if◌then◌else◌, Option, Some, None, List, [], ◌∷◌, ◌++◌, length}
+use Rattle.std.specs.Prelude.{ℕ, ◌+◌, ◌-◌, ◌<◌, ◌≤◌, ◌^◌, ◌==◌, nat_lt, nat_le, Bool, true, false, if◌then◌else◌, Option, Some, None, List, [], ◌∷◌, ◌++◌, length, take}
 use Rattle.journal.specs.Header.{HeaderFields, IsHeader, seed_of}
 use Rattle.journal_steps.specs.Batch.{BatchFields, HaveSizes}
 use Rattle.journal_steps.specs.declared.step.Ahead.{Ahead}
 use Rattle.journal_steps.specs.declared.step.Ahead.TheVariants.{NotWanted, Wanted, Making, Made, Keeping, Kept}
+use Rattle.journal_steps.specs.declared.step.Goal.{Goal}
+use Rattle.journal_steps.specs.declared.step.Goal.TheVariants.{Written, Durable}
 use Rattle.journal_steps.specs.declared.step.Lane.{Lane}
 use Rattle.journal_steps.specs.declared.step.Lane.TheVariants as lane
 use Rattle.journal_steps.specs.declared.step.Step.{Step}
@@ -87,6 +89,12 @@ due lane.Append p = due_append p
 due lane.Sync p = due_sync_by p.syncing p
 due lane.Next p = due_next_by p.ahead p
 
+-- Where the next step of a commit is due, or under way. To be written it needs an append, and where the journal waits to go on in the next
+-- file, first a sync of this one. To be durable it needs a sync of what is written, and if that is all durable, an append.
+abbrev pub lane_toward : Goal → Progress → Lane
+lane_toward Written p = if is_kept p.ahead then lane.Sync else lane.Append
+lane_toward Durable p = if nat_lt p.durable p.written then lane.Sync else lane.Append
+
 -- a step has begun: a sync is of what is written then
 abbrev pub began : Option Step → Progress → Progress
 began None p = p
@@ -149,13 +157,24 @@ broken_by lane.Next p = unprepared_by p.ahead p
 
 -- ---- what others want
 
+-- the number of the newest commit
+abbrev pub newest : Progress → ℕ
+newest p = p.taken + length p.waiting
+
 -- whether a commit with a payload may be added: the payload's length has a spelling, and the commit has a number
 abbrev pub may_add : List ℕ → Progress → Bool
-may_add payload p =
-    if nat_lt (length payload) (2 ^ 32) then nat_lt ((p.taken + length p.waiting) + 1) (2 ^ 63) else false
+may_add payload p = if nat_lt (length payload) (2 ^ 32) then nat_lt (newest p + 1) (2 ^ 63) else false
 
 abbrev pub added : List ℕ → Progress → Progress
 added payload p = if may_add payload p then record p { waiting = p.waiting ++ payload ∷ [] } else p
+
+-- the newest commit is taken back, where it waits
+abbrev pub withdrawn : Progress → Progress
+withdrawn p = record p { waiting = take (length p.waiting - 1) p.waiting }
+
+-- no step is due any more, and no commit becomes durable
+abbrev pub stopped : Progress → Progress
+stopped p = record p { broken = true }
 
 -- the journal is to go on in a new file, where the file that is written has a commit
 abbrev pub wanted_by : Ahead → Progress → Progress

@@ -6,7 +6,7 @@ use Rattle.journal.specs.Frame.{Logged}
 use Rattle.journal.specs.Header.{HeaderFields, header_in}
 use Rattle.journal.specs.declared.fault.HeaderFault.{HeaderFault}
 use Rattle.journal_steps.specs.Batch.{batch_bytes, batch_frames}
-use Rattle.journal_steps.specs.Progress.{Progress, added, began, broken_by, due, finished, oldest, removed, resting, turned, turns, wanted}
+use Rattle.journal_steps.specs.Progress.{Progress, added, began, broken_by, due, finished, oldest, removed, resting, stopped, turned, turns, wanted, withdrawn}
 use Rattle.journal_steps.specs.declared.step.Ahead.{Ahead}
 use Rattle.journal_steps.specs.declared.step.Ahead.TheVariants.{NotWanted, Wanted, Making, Made, Keeping, Kept}
 use Rattle.journal_steps.specs.declared.step.Lane.{Lane}
@@ -51,6 +51,10 @@ all_logged w = frames_in w.closed ++ w.logged
 pub data Event : Type 0 where
   -- a commit is added
   Add : (payload : List ℕ) → Event
+  -- the newest commit is taken back, where it waits
+  Withdraw : Event
+  -- no step is due any more
+  Stop : Event
   -- the journal is to go on in a new file
   Want : Event
   -- what is due in a lane begins
@@ -153,6 +157,8 @@ removes (Some seq) (s ∷ ss) w =
 
 abbrev pub happens : World → Event → World
 happens w (Add payload) = record w { progress = added payload w.progress }
+happens w Withdraw = record w { progress = withdrawn w.progress }
+happens w Stop = record w { progress = stopped w.progress }
 happens w Want = record w { progress = wanted w.progress }
 happens w (Begin l) = begins (due l w.progress) w
 happens w (Done l) = closes (record w { disk = done_disk l w; progress = finished l w.progress })
@@ -195,6 +201,8 @@ pub record IsBeside (w : World) (e : Disk) : Type 0 where
 
 abbrev pub IsBesideBy : World → Event → Type 0
 IsBesideBy w (Add payload) = Unit {0}
+IsBesideBy w Withdraw = Unit {0}
+IsBesideBy w Stop = Unit {0}
 IsBesideBy w Want = Unit {0}
 IsBesideBy w (Begin l) = Unit {0}
 IsBesideBy w (Done l) = Unit {0}

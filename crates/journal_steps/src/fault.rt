@@ -9,7 +9,9 @@ use std::alloc::{AllocError, AllocFailed};
 pub enum AddFault {
     /// A growth was refused.
     NoMemory,
-    /// The payload's length, or the commit's number, has no spelling.
+    /// The payload has 2^32 bytes or more.
+    TooLong,
+    /// The commit's number would be 2^63 or more.
     Full,
 }
 

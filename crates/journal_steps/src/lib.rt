@@ -13,11 +13,11 @@ mod laws;
 mod step;
 mod steps;
 
-pub use batch::{Batch, seal};
+pub use batch::{Batch, HEAD_BYTES, HEADER_BYTES, Sealed, new_frame, seal};
 pub use fault::AddFault;
 pub use laws::{
     a_new_journal_holds, the_journal_goes_on, the_journal_survives, the_world_does_what_is_told,
     three_steps_go_on, two_steps_make_all_durable,
 };
-pub use step::{Ahead, Lane, Step};
+pub use step::{Ahead, Goal, Lane, Step};
 pub use steps::Steps;

@@ -12,6 +12,15 @@ pub enum Lane {
     Next,
 }
 
+/// How far a commit is to come.
+#[derive(Clone, Copy, Debug, PartialEq, Eq)]
+pub enum Goal {
+    /// Its append is done.
+    Written,
+    /// A crash leaves it.
+    Durable,
+}
+
 /// How far the next file is.
 #[derive(Clone, Copy, Debug, PartialEq, Eq)]
 pub enum Ahead {

@@ -1,11 +1,12 @@
 //! How far a journal has come, which step is due next, and what each event makes of it.
-ghost use Rattle.std.specs.Prelude.{◌≡◌, ◌+◌, OnErr, OnOk, IfErr, IfOk, length, true, false};
-ghost use Rattle.journal_steps.specs.Progress.{added, began, broken_by, due, due_append, due_next_by, due_sync_by, ended, header_due, may_add, oldest, removed, reopened, turned, wanted};
+ghost use Rattle.std.specs.Prelude.{◌≡◌, ◌+◌, ◌≤◌, ◌^◌, OnErr, OnOk, IfErr, IfOk, is_some, length, true};
+ghost use Rattle.journal_steps.specs.Batch.{payload_in};
+ghost use Rattle.journal_steps.specs.Progress.{added, began, broken_by, due, due_append, due_next_by, due_sync_by, ended, header_due, lane_toward, may_add, newest, oldest, removed, reopened, stopped, turned, wanted, withdrawn};
 ghost use Rattle.journal_steps.specs.declared.fault.AddFault.TheVariants as add_fault;
 
-use crate::batch::Batch;
+use crate::batch::{Batch, HEAD_BYTES};
 use crate::fault::AddFault;
-use crate::step::{Ahead, Lane, Step};
+use crate::step::{Ahead, Goal, Lane, Step};
 use journal::{Header, NUMBER_LIMIT};
 use std::alloc::Global;
 use std::marker::Model;
@@ -37,12 +38,14 @@ pub struct Steps {
     ahead: Ahead,
     /// Whether a write or a sync has failed.
     broken: bool,
+    /// The frames of the commits that no batch has yet, each with room for its head.
     waiting: Vec<Vec<u8>>,
 }
 
 impl Model for Steps {
     ghost use Rattle.std.specs.Prelude.{◌≡◌, map};
     ghost use Rattle.journal.specs.Header.{seed_of};
+    ghost use Rattle.journal_steps.specs.Batch.{HaveRooms, payload_in};
     ghost use Rattle.journal_steps.specs.Progress.{IsReady, Progress};
 
     ghost Value = { Progress };
@@ -59,7 +62,7 @@ impl Model for Steps {
       syncing = s.syncing;
       ahead = s.ahead;
       broken = s.broken;
-      waiting = map (λ v. v.items) s.waiting.items;
+      waiting = map (λ v. payload_in v.items) s.waiting.items;
     } };
 
     ghost invariant = { λ s. (s.seed ≡ seed_of s.salt) × IsReady (record {
@@ -74,8 +77,8 @@ impl Model for Steps {
       syncing = s.syncing;
       ahead = s.ahead;
       broken = s.broken;
-      waiting = map (λ v. v.items) s.waiting.items;
-    }) };
+      waiting = map (λ v. payload_in v.items) s.waiting.items;
+    }) × HaveRooms (map (λ v. v.items) s.waiting.items) };
 }
 
 impl Steps {
@@ -127,6 +130,20 @@ impl Steps {
         self.written
     }
 
+    /// The number of the file that is written.
+    pub fn file(&self) -> u64
+        ensures { result ≡ self.now.seq }
+    {
+        self.seq
+    }
+
+    /// The number of the oldest file.
+    pub fn first_file(&self) -> u64
+        ensures { result ≡ self.now.first }
+    {
+        self.first
+    }
+
     /// Whether a write or a sync has failed: no commit becomes durable any more.
     pub fn is_broken(&self) -> bool
         ensures { result ≡ self.now.broken }
@@ -134,27 +151,78 @@ impl Steps {
         self.broken
     }
 
-    /// Adds a commit with this payload, which waits for the next batch, and returns its number: it is durable once `durable` has reached
-    /// that.
+    /// The number of the newest commit.
+    pub fn newest(&self) -> u64
+        ensures { result ≡ newest self.now }
+    {
+        self.taken + self.waiting.len() as u64
+    }
+
+    /// Adds a commit with this frame, whose head is filled later. It waits for the next batch. Returns its number: it is durable once
+    /// `durable` has reached that.
     ///
     /// # Errors
     ///
-    /// `Full` where the payload's length or the commit's number has no spelling, `NoMemory` where a growth is refused: nothing has changed.
-    pub fn add(&mut self, payload: Vec<u8>) -> Result<u64, AddFault>
-        ensures number { IfOk result (λ number. number ≡ (self.old.taken + length self.old.waiting) + 1) }
-        ensures ok { OnOk result ((may_add payload.items self.old ≡ true) × (self.new ≡ added payload.items self.old)) }
-        ensures full { IfErr result (λ fault. fault ≡ add_fault.Full → may_add payload.items self.old ≡ false) }
+    /// `TooLong` where the payload has 2^32 bytes or more, `Full` where the commit's number would be 2^63 or more, `NoMemory` where a growth
+    /// is refused: nothing has changed.
+    pub fn add(&mut self, frame: Vec<u8>) -> Result<u64, AddFault>
+        requires room { 28 ≤ length frame.items }
+        ensures number { IfOk result (λ number. number ≡ newest self.old + 1) }
+        ensures ok { OnOk result ((may_add (payload_in frame.items) self.old ≡ true) × (self.new ≡ added (payload_in frame.items) self.old)) }
+        ensures long { IfErr result (λ fault. fault ≡ add_fault.TooLong → 2 ^ 32 ≤ length (payload_in frame.items)) }
+        ensures full { IfErr result (λ fault. fault ≡ add_fault.Full → 2 ^ 63 ≤ newest self.old + 1) }
         ensures err { OnErr result (self.new ≡ self.old) }
     {
-        if payload.len() as u64 >= PAYLOAD_LIMIT {
-            return Err(AddFault::Full);
+        if (frame.len() - HEAD_BYTES) as u64 >= PAYLOAD_LIMIT {
+            return Err(AddFault::TooLong);
         }
-        let number = self.taken + self.waiting.len() as u64 + 1;
+        let number = self.newest() + 1;
         if number >= NUMBER_LIMIT {
             return Err(AddFault::Full);
         }
-        self.waiting.push(payload)?;
+        self.waiting.push(frame)?;
         Ok(number)
+    }
+
+    /// Takes back the newest commit, where no batch has it yet: it was prepared, and is given up.
+    pub fn withdraw(&mut self)
+        ensures { self.new ≡ withdrawn self.old }
+    {
+        self.waiting.pop();
+    }
+
+    /// No step is due any more, and no commit becomes durable: something beside the journal has failed that its commits need.
+    pub fn stop(&mut self)
+        ensures { self.new ≡ stopped self.old }
+    {
+        self.broken = true;
+    }
+
+    /// Whether a step is due in a lane.
+    pub fn is_due(&self, lane: Lane) -> bool
+        ensures { result ≡ is_some (due lane self.now) }
+    {
+        if self.broken {
+            return false;
+        }
+        match lane {
+            Lane::Append => {
+                self.ahead != Ahead::Kept && self.written == self.taken && !self.waiting.is_empty()
+            }
+            Lane::Sync => self.syncing.is_none() && self.durable < self.written,
+            Lane::Next => self.ahead == Ahead::Wanted || self.ahead == Ahead::Made,
+        }
+    }
+
+    /// The lane in which a step is due, or under way, before a commit that was added is written, or durable.
+    pub fn lane_toward(&self, goal: Goal) -> Lane
+        ensures { result ≡ lane_toward goal self.now }
+    {
+        match goal {
+            Goal::Written if self.ahead == Ahead::Kept => Lane::Sync,
+            Goal::Durable if self.durable < self.written => Lane::Sync,
+            Goal::Written | Goal::Durable => Lane::Append,
+        }
     }
 
     /// The journal is to go on in a new file, unless the file that is written has no commit yet.
@@ -214,7 +282,7 @@ impl Steps {
             seed: self.seed,
             first,
             durable: self.durable,
-            payloads: mem::replace(&mut self.waiting, Vec::new(alloc)),
+            frames: mem::replace(&mut self.waiting, Vec::new(alloc)),
         }))
     }
 

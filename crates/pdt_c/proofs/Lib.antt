@@ -9,4 +9,5 @@ mod EntryLemmas
 mod FillingLemmas
 mod Crossing
 mod ReopeningLemmas
+mod StepLemmas
 mod ImportingLemmas

@@ -1,5 +1,5 @@
 -- What C reads of a journal, and writes into one.
-use Rattle.std.specs.Prelude.{◌≡◌, ◌≤◌, ◌^◌, ℕ, if◌then◌else◌, Option, Some, None, List, [], length, Result, Ok, Err}
+use Rattle.std.specs.Prelude.{◌≡◌, ◌≤◌, ◌^◌, ℕ, if◌then◌else◌, Option, Some, None, List, [], ◌++◌, length, Result, Ok, Err}
 use Rattle.values.specs.Shape.{Columns}
 use Rattle.codec.specs.Payload.{entries_bytes, part_bytes}
 use Rattle.codec.specs.Reading.{entries_in}
@@ -23,6 +23,10 @@ IsToldHeader bytes (Err fault) code old new = (code ≡ (if is_later_header byte
 abbrev pub IsPartOf : Columns → ℕ → Option Tree → List ℕ → Type 0
 IsPartOf schema table None bytes = bytes ≡ []
 IsPartOf schema table (Some tree) bytes = (bytes ≡ part_bytes table tree.entries) × (entries_in schema table bytes ≡ Ok tree.entries)
+
+-- such a part is behind the bytes that were there
+abbrev pub IsAppended : Columns → ℕ → Option Tree → List ℕ → List ℕ → Type 0
+IsAppended schema table tree old new = (part : List ℕ) × IsPartOf schema table tree part × (new ≡ old ++ part)
 
 -- the entries of a commit's tree have too many bytes for a part
 abbrev pub IsLong : Option Tree → Type 0

@@ -14,6 +14,7 @@ pub mod Texts
 pub mod Truths
 pub mod Stored
 pub mod Journals
+pub mod Steps
 pub mod Entries
 pub mod Filling
 pub mod Columns

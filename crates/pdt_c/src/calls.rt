@@ -25,6 +25,7 @@ mod prepares;
 mod reads;
 mod reopening;
 mod scans;
+mod steps;
 mod stretches;
 mod tables;
 mod texts;

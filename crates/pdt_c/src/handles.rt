@@ -8,6 +8,8 @@ pub(crate) mod journal_frames;
 pub(crate) mod layer;
 pub(crate) mod listed;
 pub(crate) mod next_table;
+pub(crate) mod open_batch;
+pub(crate) mod open_journal;
 pub(crate) mod pin;
 pub(crate) mod store;
 pub(crate) mod transaction;

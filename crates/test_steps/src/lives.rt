@@ -1,4 +1,5 @@
 //! Drawn events over a disk in memory. At drawn moments a crash leaves some disk, whose files are read again.
+use crate::bytes::{bytes_of, frame_of};
 use crate::draws::Draws;
 use crate::medium::{File, Medium, Name, drawn_up_to};
 use journal::{Ending, Header, read_frames, read_header};
@@ -88,8 +89,8 @@ impl Life {
         match self.steps.next(alloc, lane) {
             None => {}
             Some(Step::Append(batch)) => {
-                let bytes = seal(alloc, &batch)?;
                 let seq = batch.file();
+                let bytes = bytes_of(alloc, &seal(batch))?;
                 let taken = self.taken;
                 if let Some(file) = self.medium.file(seq) {
                     let at = file.bytes.len();
@@ -177,9 +178,16 @@ impl Life {
     /// A commit is added.
     fn add(&mut self, alloc: Global) -> Result<bool, Fail> {
         let number = self.added.wrapping_add(1);
-        let added = self.steps.add(payload_of(alloc, number)?) == Ok(number);
+        let payload = payload_of(alloc, number)?;
+        let added = self.steps.add(frame_of(alloc, payload.as_slice())?) == Ok(number);
         self.added = number;
         Ok(added)
+    }
+
+    /// The newest commit is taken back, where it waits.
+    fn withdraw(&mut self) {
+        self.steps.withdraw();
+        self.added = self.added.saturating_sub(1).max(self.taken);
     }
 
     /// An event that is drawn.
@@ -193,10 +201,13 @@ impl Life {
             0..=9 => return self.add(alloc),
             10..=22 => self.begin(alloc, lane)?,
             23..=35 => self.done(lane),
-            36..=37 => self.steps.want_next(),
+            36 => self.steps.want_next(),
+            37 => self.withdraw(),
             38 => {
-                if draws.below(4) == 0 {
-                    self.fail(lane, draws);
+                match draws.below(12) {
+                    0 => self.steps.stop(),
+                    1..=3 => self.fail(lane, draws),
+                    _ => self.steps.want_next(),
                 }
             }
             _ => {

@@ -1,6 +1,7 @@
 //! Which step is due next, in a life that a person wrote down.
+use crate::bytes::{bytes_of, frame_of};
 use journal::{Ending, Header, NUMBER_LIMIT, read_frames, read_header};
-use journal_steps::{AddFault, Lane, Step, Steps, seal};
+use journal_steps::{AddFault, Goal, Lane, Step, Steps, seal};
 use std::alloc::Global;
 use std::test::Fail;
 
@@ -8,6 +9,8 @@ use std::test::Fail;
 #[derive(Clone, Copy)]
 enum Happening {
     Add,
+    Withdraw,
+    Toward(Goal),
     Want,
     Next(Lane),
     Done(Lane),
@@ -20,16 +23,26 @@ enum Happening {
 struct Moment(Happening, &'static str, u64, u64, u64);
 
 /// A journal behind commit 6, in its file 1.
-static LIFE: [Moment; 27] = [
+static LIFE: [Moment; 38] = [
     // A file without a commit is followed by none.
     Moment(Happening::Want, "", 0, 6, 6),
     Moment(Happening::Next(Lane::Next), "none", 0, 6, 6),
     Moment(Happening::Add, "", 0, 6, 6),
     Moment(Happening::Next(Lane::Append), "append", 1, 6, 6),
+    // What waits may be withdrawn, what a batch has not.
+    Moment(Happening::Add, "", 0, 6, 6),
+    Moment(Happening::Withdraw, "", 0, 6, 6),
+    Moment(Happening::Withdraw, "", 0, 6, 6),
+    Moment(Happening::Toward(Goal::Written), "none", 0, 6, 6),
     // While the first append is under way, no commit is written that a sync could make durable.
     Moment(Happening::Next(Lane::Sync), "none", 0, 6, 6),
     Moment(Happening::Next(Lane::Append), "none", 0, 6, 6),
     Moment(Happening::Done(Lane::Append), "", 0, 7, 6),
+    // What is written is synced before more is, where a commit is to be durable.
+    Moment(Happening::Add, "", 0, 7, 6),
+    Moment(Happening::Toward(Goal::Written), "append", 0, 7, 6),
+    Moment(Happening::Toward(Goal::Durable), "sync", 0, 7, 6),
+    Moment(Happening::Withdraw, "", 0, 7, 6),
     // A commit that is written beside a sync isn't durable with it.
     Moment(Happening::Next(Lane::Sync), "sync", 1, 7, 6),
     Moment(Happening::Add, "", 0, 7, 6),
@@ -48,8 +61,11 @@ static LIFE: [Moment; 27] = [
     // The next file waits until each commit is durable, and a commit waits for it.
     Moment(Happening::Add, "", 0, 8, 7),
     Moment(Happening::Next(Lane::Append), "none", 0, 8, 7),
+    Moment(Happening::Toward(Goal::Written), "sync", 0, 8, 7),
+    Moment(Happening::Toward(Goal::Durable), "sync", 0, 8, 7),
     Moment(Happening::Next(Lane::Sync), "sync", 1, 8, 7),
     Moment(Happening::Done(Lane::Sync), "", 0, 8, 8),
+    Moment(Happening::Toward(Goal::Durable), "append", 0, 8, 8),
     Moment(Happening::Next(Lane::Append), "append", 2, 8, 8),
     // After a failure nothing is due.
     Moment(Happening::Failed(Lane::Append), "", 0, 8, 8),
@@ -73,11 +89,15 @@ fn journal_behind(alloc: Global, newest: u64) -> Option<Steps> {
     Steps::new(alloc, &header, newest, 1, 1)
 }
 
-/// A payload of bytes.
-fn payload(alloc: Global, bytes: &[u8]) -> Result<Vec<u8>, Fail> {
-    let mut payload = Vec::new(alloc);
-    payload.extend_from_slice(bytes)?;
-    Ok(payload)
+/// The step that is due toward a goal, as a word.
+fn due_toward(steps: &Steps, goal: Goal) -> &'static str {
+    let lane = steps.lane_toward(goal);
+    match (steps.is_due(lane), lane) {
+        (false, _) => "none",
+        (true, Lane::Append) => "append",
+        (true, Lane::Sync) => "sync",
+        (true, Lane::Next) => "next",
+    }
 }
 
 /// What happens at a moment, and the step that is due then.
@@ -88,8 +108,10 @@ fn happen(
 ) -> Result<(&'static str, u64), Fail> {
     match happening {
         Happening::Add => {
-            steps.add(payload(alloc, b"abc")?)?;
+            steps.add(frame_of(alloc, b"abc")?)?;
         }
+        Happening::Withdraw => steps.withdraw(),
+        Happening::Toward(goal) => return Ok((due_toward(steps, goal), 0)),
         Happening::Want => steps.want_next(),
         Happening::Next(lane) => return Ok(word_of(&steps.next(alloc, lane))),
         Happening::Done(lane) => steps.done(lane),
@@ -117,11 +139,11 @@ fn has_header(alloc: Global) -> Result<bool, Fail> {
     let Some(mut steps) = journal_behind(alloc, 6) else {
         return Ok(false);
     };
-    steps.add(payload(alloc, b"abc")?)?;
+    steps.add(frame_of(alloc, b"abc")?)?;
     let Some(Step::Append(batch)) = steps.next(alloc, Lane::Append) else {
         return Ok(false);
     };
-    let bytes = seal(alloc, &batch)?;
+    let bytes = bytes_of(alloc, &seal(batch))?;
     let Ok((header, rest)) = read_header(bytes.as_slice()) else {
         return Ok(false);
     };
@@ -134,8 +156,8 @@ fn is_full_at_the_end(alloc: Global) -> Result<bool, Fail> {
     let Some(mut steps) = journal_behind(alloc, NUMBER_LIMIT - 2) else {
         return Ok(false);
     };
-    let last = steps.add(payload(alloc, b"")?) == Ok(NUMBER_LIMIT - 1);
-    Ok(last && steps.add(payload(alloc, b"")?) == Err(AddFault::Full))
+    let last = steps.add(frame_of(alloc, b"")?) == Ok(NUMBER_LIMIT - 1);
+    Ok(last && steps.add(frame_of(alloc, b"")?) == Err(AddFault::Full))
 }
 
 #[test]

@@ -161,7 +161,6 @@ void pdti_count(pdt_table *table, int code) {
 void pdti_let_go(pdt_txn *txn) {
   if (txn->ended.at) pdtr_ended_close(&txn->ended);
   if (txn->decision.at) pdtr_give_up(&txn->decision);
-  if (txn->part.at) pdtr_image_close(&txn->part);
 }
 
 void pdti_forget(pdt_txn *txn) {

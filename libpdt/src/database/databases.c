@@ -38,28 +38,23 @@ int pdti_reserve_entry(pdt_database *database) {
   if (database->count < database->room) return PDT_OK;
   size_t room = database->room ? 2 * database->room : 16;
   pdti_member **members = malloc(room * sizeof *members);
-  pdt_table **batch = malloc(room * sizeof *batch);
-  pdti_replaced *versions = malloc(room * sizeof *versions);
-  if (!members || !batch || !versions) {
-    free(members);
-    free(batch);
-    free(versions);
-    return PDT_NOMEM;
-  }
+  if (!members) return PDT_NOMEM;
   if (database->count) memcpy(members, database->members, database->count * sizeof *members);
   free(database->members);
-  free(database->batch);
-  free(database->replaced);
   database->members = members;
-  database->batch = batch;
-  database->replaced = versions;
   database->room = room;
   return PDT_OK;
 }
 
+void pdti_place_entry(pdt_database *database, pdti_member *entry) {
+  size_t at = database->count++;
+  for (; at && database->members[at - 1]->number > entry->number; at--) database->members[at] = database->members[at - 1];
+  database->members[at] = entry;
+}
+
 int pdti_add_entry(pdt_database *database, pdti_member *entry) {
   if (pdti_reserve_entry(database)) return PDT_NOMEM;
-  database->members[database->count++] = entry;
+  pdti_place_entry(database, entry);
   return PDT_OK;
 }
 
@@ -97,10 +92,7 @@ static void unlock(int file) {
 static void free_database(pdt_database *database) {
   for (size_t i = 0; i < database->count; i++) pdti_free_entry(database->members[i]);
   free(database->members);
-  free(database->batch);
-  free(database->replaced);
-  free(database->pending.at);
-  free(database->writing.at);
+  pdti_close_journal(database);
   if (database->file >= 0) close(database->file);
   if (database->next_file >= 0) close(database->next_file);
   unlock(database->dir);
@@ -111,8 +103,8 @@ static void free_database(pdt_database *database) {
 
 /* Makes the locks, or none of them. */
 static int make_locks(pdt_database *database) {
-  pthread_mutex_t *plain[] = {&database->turn_lock, &database->files_lock, &database->maintenance_lock, &database->round_lock};
-  pthread_cond_t *conditions[] = {&database->turn_ends, &database->maintenance_wakes, &database->image_ends};
+  pthread_mutex_t *plain[] = {&database->journal_lock, &database->files_lock, &database->maintenance_lock, &database->round_lock};
+  pthread_cond_t *conditions[] = {&database->journal_moves, &database->maintenance_wakes, &database->image_ends};
   size_t locks = 0, waits = 0;
   while (locks < 4 && !pthread_mutex_init(plain[locks], NULL)) locks++;
   pthread_condattr_t kind;
@@ -129,10 +121,10 @@ static int make_locks(pdt_database *database) {
 
 static void destroy_locks(pdt_database *database) {
   pdti_destroy_locks(&database->locks);
-  pthread_cond_destroy(&database->turn_ends);
+  pthread_cond_destroy(&database->journal_moves);
   pthread_cond_destroy(&database->maintenance_wakes);
   pthread_cond_destroy(&database->image_ends);
-  pthread_mutex_destroy(&database->turn_lock);
+  pthread_mutex_destroy(&database->journal_lock);
   pthread_mutex_destroy(&database->files_lock);
   pthread_mutex_destroy(&database->maintenance_lock);
   pthread_mutex_destroy(&database->round_lock);
@@ -226,13 +218,14 @@ pdt_code pdt_database_close(pdt_database *database) {
 pdt_code pdt_database_count(pdt_database *database, pdt_database_counts *out) {
   if (!pdti_is_ours(database) || !out || pdti_may_fill(out, offsetof(pdt_database_counts, kept_bytes))) return PDT_MISUSE;
   pdt_database_counts made = {0}, *counts = &made;
-  pthread_mutex_lock(&database->turn_lock); /* first: what is durable isn't newer than the newest then */
-  counts->durable = database->durable;
+  pthread_mutex_lock(&database->journal_lock); /* first: what is durable isn't newer than the newest then */
+  counts->durable = database->at.durable;
   counts->batches = database->batches;
   counts->syncs = database->syncs;
-  counts->journal_files = database->file_count;
+  /* one that has no commit yet, behind others, isn't counted: nothing is in it */
+  counts->journal_files = database->file_count - (database->file_count > 1 && !database->files[database->file_count - 1].bytes);
   for (size_t i = 0; i < database->file_count; i++) counts->journal_bytes += database->files[i].bytes;
-  pthread_mutex_unlock(&database->turn_lock);
+  pthread_mutex_unlock(&database->journal_lock);
   int held = pthread_mutex_lock(&database->locks.lock); /* by this thread, where a commit of its own is prepared */
   counts->commits = database->newest;
   counts->tables = database->count;

@@ -22,9 +22,9 @@ static int prepare_all(pdt_txn *const *txns, size_t count, size_t *refused) {
   return PDT_OK;
 }
 
-/* Does what was decided of each, under the next number. Nothing of it can fail. Under the lock. */
-static uint64_t install_all(pdt_database *database, pdt_txn *const *txns, size_t count, pdti_turned *members) {
-  uint64_t number = pdti_append(database);
+/* Does what was decided of each, under the number that the journal has given it. Nothing of it can fail. Under the lock. */
+static void install_all(pdt_database *database, pdt_txn *const *txns, size_t count, pdti_turned *members, uint64_t number) {
+  database->newest = number;
   for (size_t i = 0; i < count; i++) {
     pdt_table *table = txns[i]->table;
     uint64_t local = 0;
@@ -39,13 +39,12 @@ static uint64_t install_all(pdt_database *database, pdt_txn *const *txns, size_t
   for (size_t i = 0; i < count; i++) members[i].before = pdti_share(txns[i]->table, members[i].made);
   if (!pdti_hides(database)) database->published = number;
   pthread_mutex_unlock(&database->locks.fresh_lock);
-  return number;
 }
 
-/* The room of a frame is kept where nobody waits for what is written: it is written once it is large. */
+/* Where nobody waits for what is written, it is written once it is large. */
 static int write_where_large(pdt_database *database) {
   pthread_mutex_lock(&database->locks.lock);
-  bool is_large = database->pending.len > OFF_ROOM;
+  bool is_large = database->waiting > OFF_ROOM;
   pthread_mutex_unlock(&database->locks.lock);
   return is_large ? pdti_flush(database, false) : PDT_OK;
 }
@@ -66,12 +65,12 @@ static int commit_all(pdt_database *database, pdt_txn *const *txns, size_t count
   bool is_decided = !code;
   if (!code) code = prepare_all(txns, count, &refused);
   bool is_refused = is_decided && code && code != PDT_NOMEM;
-  if (!code) code = pdti_stage(database, txns, count);
+  if (!code) code = pdti_stage(database, txns, count, number);
   if (is_refused) {
     pdti_refuse(txns[refused]->table, txns[refused], code);
     *number = database->newest;
   }
-  if (!code) *number = install_all(database, txns, count, members);
+  if (!code) install_all(database, txns, count, members, *number);
   pdti_leave(txns[0]->table);
   for (size_t i = 0; i < count; i++) pdti_let_go(txns[i]);
   if (!code) {
@@ -106,16 +105,13 @@ int pdti_commit_in(pdt_database *database, pdt_txn *txn, uint64_t *commits) {
 
 /* ---- a commit in two parts */
 
-int pdti_stage_one(pdt_database *database, pdt_txn *txn, uint64_t *number) {
-  int code = pdti_stage(database, &txn, 1);
-  if (!code) *number = database->newest + 1;
-  return code;
-}
+int pdti_stage_one(pdt_database *database, pdt_txn *txn, uint64_t *number) { return pdti_stage(database, &txn, 1, number); }
 
 int pdti_install_in(pdt_database *database, pdt_txn *txn) {
   pdti_turned one;
-  if (database->takes_none) return PDT_WRITES_FAILED; /* since it was prepared */
-  uint64_t number = install_all(database, &txn, 1, &one);
+  if (database->has_failed) return PDT_WRITES_FAILED; /* since it was prepared */
+  uint64_t number = database->newest + 1;             /* that it was given: the lock is held since then */
+  install_all(database, &txn, 1, &one, number);
   pdti_leave(txn->table);
   pdti_drop(one.before);
   pdti_forget(txn);

@@ -24,12 +24,16 @@ static void free_files(pdti_run_files *run) {
   free(run->commits.at);
 }
 
-static bool is_there(const pdt_database *database, const char *name) {
+static int look_for(const pdt_database *database, const char *name, bool *is_there) {
   struct stat about;
-  return !fstatat(database->dir, name, &about, AT_SYMLINK_NOFOLLOW) || errno != ENOENT;
+  *is_there = !fstatat(database->dir, name, &about, AT_SYMLINK_NOFOLLOW);
+  return *is_there || errno == ENOENT ? PDT_OK : PDT_IO;
 }
 
-bool pdti_has_run(const pdt_database *database) { return is_there(database, "images.pdt") || is_there(database, "journal.pdt"); }
+int pdti_find_run(const pdt_database *database, bool *has_run) {
+  int code = look_for(database, "images.pdt", has_run);
+  return code || *has_run ? code : look_for(database, "journal.pdt", has_run);
+}
 
 /* ---- reading: the tests are in the order of `pdt recover` */
 

@@ -45,9 +45,9 @@ static bool wants_image(const pdt_database *database, const pdti_measure *of) {
 /* Whether the journal is longer than it may be, so that what keeps its oldest file is let go. */
 static bool is_long(pdt_database *database) {
   uint64_t bytes = 0;
-  pthread_mutex_lock(&database->turn_lock);
+  pthread_mutex_lock(&database->journal_lock);
   for (size_t i = 0; i < database->file_count; i++) bytes += database->files[i].bytes;
-  pthread_mutex_unlock(&database->turn_lock);
+  pthread_mutex_unlock(&database->journal_lock);
   return bytes > database->options.journal_bytes;
 }
 
@@ -135,11 +135,11 @@ static pdti_round begin_round(pdt_database *database) {
   pthread_mutex_lock(&database->locks.lock);
   uint64_t newest = database->newest;
   pthread_mutex_unlock(&database->locks.lock);
-  pthread_mutex_lock(&database->turn_lock);
-  pdti_round now = {newest, database->durable, 0};
+  pthread_mutex_lock(&database->journal_lock);
+  pdti_round now = {newest, database->at.durable, 0};
   /* its first file goes once each image has the commits that are in it */
-  if (is_journal_long) now.wanted = database->file_count > 1 && database->files[1].bytes ? database->files[1].base : database->durable;
-  pthread_mutex_unlock(&database->turn_lock);
+  if (is_journal_long) now.wanted = database->file_count > 1 && database->files[1].bytes ? database->files[1].base : now.durable;
+  pthread_mutex_unlock(&database->journal_lock);
   return now;
 }
 
@@ -182,12 +182,7 @@ static int note_where_quiet(pdt_database *database, uint64_t durable) {
 }
 
 /* Whether it takes commits: else there is nothing to keep up with, and no image may be made of what isn't durable. */
-static bool takes_commits(pdt_database *database) {
-  pthread_mutex_lock(&database->locks.lock);
-  bool takes = !database->takes_none;
-  pthread_mutex_unlock(&database->locks.lock);
-  return takes;
-}
+static bool takes_commits(const pdt_database *database) { return !database->has_failed; }
 
 /* The first table from a number on, or null: they are in the order of their numbers. */
 static pdti_member *next_table(const pdt_database *database, uint64_t number) {

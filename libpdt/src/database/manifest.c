@@ -35,19 +35,22 @@ static uint64_t oldest_image(const pdt_database *database, uint64_t number, cons
 
 /* The newest commit that is known to be durable, where one is. */
 static uint64_t durable_number(pdt_database *database, uint64_t number) {
-  pthread_mutex_lock(&database->turn_lock);
-  uint64_t durable = database->durable;
-  pthread_mutex_unlock(&database->turn_lock);
+  uint64_t durable = pdti_durable(database);
   return durable > number ? durable : number;
 }
 
-/* Adds the tables, and one more where it isn't null. */
+/* Adds the tables, and one more where it isn't null, by their numbers. */
 static int add_tables(const pdt_database *database, pdti_handle *manifest, const pdti_member *added) {
-  for (size_t i = 0; i < database->count; i++) {
-    int code = add_table(manifest, database->members[i]);
-    if (code) return code;
+  int code = PDT_OK;
+  for (size_t i = 0; i < database->count && !code; i++) {
+    const pdti_member *entry = database->members[i];
+    if (added && added->number < entry->number) {
+      code = add_table(manifest, added);
+      added = NULL;
+    }
+    if (!code) code = add_table(manifest, entry);
   }
-  return added ? add_table(manifest, added) : PDT_OK;
+  return code || !added ? code : add_table(manifest, added);
 }
 
 static int put_manifest(pdt_database *database, uint64_t number, const pdti_member *added, pdti_buffer *text) {

@@ -71,10 +71,13 @@ bool pdti_has_lost_lock(const pdt_database *database) {
   return ours.st_ino != there.st_ino || ours.st_dev != there.st_dev;
 }
 
+/* Takes the manifest away, and says whether it stays away: with one and without the journal the folder would have lost a file. */
+static bool is_manifest_gone(int dir) { return unlinkat(dir, "manifest", 0) ? errno == ENOENT : !pdti_sync_in(dir); }
+
 void pdti_remove_new(pdt_database *database, const char *folder) {
   if (database->has_made_lock) pdti_remove_in(database->dir, "lock");
   if (!folder) return;
-  if (database->dir >= 0) pdti_remove_in(database->dir, "manifest"), pdti_remove_in(database->dir, "journal-1");
+  if (database->dir >= 0 && is_manifest_gone(database->dir)) pdti_remove_in(database->dir, "journal-1");
   rmdir(folder);
 }
 
@@ -84,6 +87,7 @@ void pdti_remove_new(pdt_database *database, const char *folder) {
 typedef struct {
   int dir;
   size_t count;
+  int why; /* errno, where a file isn't known */
 } pdti_leftovers;
 
 static void count_image(void *context, const char *name, uint64_t member, uint64_t folder) {
@@ -95,7 +99,8 @@ static void count_journal(void *context, const char *name, uint64_t seq, uint64_
   pdti_leftovers *found = context;
   struct stat about;
   (void)seq, (void)second;
-  if (fstatat(found->dir, name, &about, 0) || about.st_size) found->count++; /* an empty one was made, and nothing came of it */
+  if (fstatat(found->dir, name, &about, 0)) found->why = errno;
+  else if (about.st_size) found->count++; /* an empty one was made, and nothing came of it */
 }
 
 /* Draws what its frames are told by from any other's. */
@@ -128,17 +133,19 @@ int pdti_begin_journal(pdt_database *database) {
 
 /* Makes the manifest of a database in a folder that has none, after its journal. Where images, types or frames are there, it is lost. */
 static int make_new(pdt_database *database) {
-  pdti_leftovers found = {database->dir, 0};
+  pdti_leftovers found = {database->dir, 0, 0};
   struct stat about;
   int code = pdti_names(database->dir, PDTI_IMAGE, count_image, &found);
   if (!code) code = pdti_names(database->dir, PDTI_TYPES, count_image, &found);
   if (!code) code = pdti_names(database->dir, PDTI_JOURNAL, count_journal, &found);
   if (code) return code;
   if (found.count) return PDT_INCOMPLETE;
+  if (found.why) return errno = found.why, PDT_IO;
   database->next_table = database->next_folder = 1;
   code = draw(&database->name) || pdti_begin_journal(database) ? PDT_IO : pdti_write_manifest(database, 0, NULL, NULL);
   int why = errno;
-  if (code && fstatat(database->dir, "manifest", &about, 0)) pdti_remove_in(database->dir, "journal-1"); /* which has no byte */
+  bool has_none = code && fstatat(database->dir, "manifest", &about, 0) && errno == ENOENT;
+  if (has_none) pdti_remove_in(database->dir, "journal-1"); /* which has no byte */
   errno = why;
   return code;
 }
@@ -252,31 +259,40 @@ static int open_tables(pdti_journal_read *read, uint64_t number, pdti_reopened *
 
 /* ---- where the journal goes on */
 
-/* Puts the header of a file and the frames that stay into another one, which the device takes. */
-static int copy_frames(const pdti_journal_read *read, const pdti_journal_end *end, const uint8_t *frames, const char *name) {
+/* Puts the frames of a file that stay into another one, behind its header if there are any, which the device takes. */
+static int copy_frames(const pdti_journal_read *read, size_t place, const uint8_t *frames, size_t kept, const char *name) {
   pdt_database *database = read->database;
-  const pdti_segment *of = &read->files[end->place];
+  const pdti_segment *of = &read->files[place];
   uint8_t header[JOURNAL_HEADER];
-  if (of->front && !pdtr_journal_header(database->salt, database->name, of->base, header, sizeof header)) return PDT_CORRUPT;
+  size_t front = kept ? of->front : 0; /* it is written with the first frame */
+  if (front && !pdtr_journal_header(database->salt, database->name, of->base, header, sizeof header)) return PDT_CORRUPT;
   int file = pdti_make_new(database, database->dir, name, O_WRONLY);
   if (file < 0) return PDT_IO;
-  int code = pdti_write_to(file, header, of->front);
-  return pdti_close_synced(file, code ? code : pdti_write_to(file, frames, end->kept));
+  int code = pdti_write_to(file, header, front);
+  return pdti_close_synced(file, code ? code : pdti_write_to(file, frames, kept));
 }
 
 /* Writes a file anew with the frames that stay. Where a sync has failed before, the system may hold bytes that the device hasn't, and takes
    them for written: only what is written again is sure to be there. */
-static int write_anew(const pdti_journal_read *read, const pdti_journal_end *end, const uint8_t *frames) {
+static int write_anew(const pdti_journal_read *read, size_t place, const uint8_t *frames, size_t kept) {
   pdt_database *database = read->database;
-  pdti_journal_file *file = &database->files[end->place];
+  pdti_journal_file *file = &database->files[place];
   char name[FILE_NAME];
   pdti_name_journal(name, file->seq);
-  int code = copy_frames(read, end, frames, "journal-new");
+  int code = copy_frames(read, place, frames, kept, "journal-new");
   if (!code && renameat(database->dir, "journal-new", database->dir, name)) code = PDT_IO;
   if (code) pdti_remove_in(database->dir, "journal-new"); /* it may be what has filled the disk */
   if (!code) code = pdti_sync_in(database->dir);
-  if (!code) file->bytes = read->files[end->place].front + end->kept;
+  if (!code) file->bytes = kept ? read->files[place].front + kept : 0;
   return code;
+}
+
+/* A last file that has its header and no frame is written anew without it. */
+static int empty_last(const pdti_journal_read *read) {
+  const pdt_database *database = read->database;
+  size_t last = database->file_count - 1;
+  bool has_none = database->count && database->files[last].bytes && database->files[last].bytes <= read->files[last].front;
+  return has_none && !database->options.read_only ? write_anew(read, last, pdti_no_bytes, 0) : PDT_OK;
 }
 
 /* Keeps what is torn where it has whole frames, and says where. */
@@ -296,7 +312,7 @@ static int cut_torn(pdti_journal_read *read, const pdti_reopened *found, uint64_
   report->torn_bytes += end.torn;
   if (code || database->options.read_only) return code;
   code = keep_frames(read, found, end.torn, report);
-  return code || !end.is_anew ? code : write_anew(read, &end, read->frames.at + found->whole - end.kept);
+  return code || !end.is_anew ? code : write_anew(read, end.place, read->frames.at + found->whole - end.kept, end.kept);
 }
 
 /* Opens the last file of the journal, in which frames go on. */
@@ -306,7 +322,6 @@ static int open_last(pdt_database *database) {
   pdti_journal_file *last = &database->files[database->file_count - 1];
   pdti_name_journal(name, last->seq);
   database->file = pdti_open_in(database->dir, name, O_WRONLY | O_APPEND);
-  database->next_seq = last->seq + 1;
   return database->file < 0 ? PDT_IO : PDT_OK;
 }
 
@@ -331,7 +346,9 @@ static void remove_old_journal(void *context, const char *name, uint64_t seq, ui
 static int find_manifest(pdt_database *database, uint64_t *number, pdti_journal_read *read, pdt_report *report) {
   int code = pdti_read_manifest(database, number, &read->first);
   if (code != PDT_MISSING || database->options.read_only) return about(report, "manifest", code);
-  if (pdti_has_run(database)) {
+  bool has_run = false;
+  if (pdti_find_run(database, &has_run)) return PDT_IO;
+  if (has_run) {
     code = pdti_import(database, report);
     return code ? code : about(report, "manifest", pdti_read_manifest(database, number, &read->first));
   }
@@ -367,12 +384,13 @@ static int recover(pdt_database *database, pdti_journal_read *read, pdt_report *
   pdti_reopened found = {0, number, 0};
   if (!code) code = open_tables(read, number, &found, report);
   if (!code) code = database->count ? cut_torn(read, &found, number, report) : begin_anew(database, number);
+  if (!code) code = empty_last(read);
   if (!code) code = open_last(database);
   if (code) return code;
   report->commits = found.newest;
-  database->newest = database->written = database->durable = found.newest;
   database->published = found.newest;
-  return attach_tables(database, found.newest);
+  code = pdti_open_journal(database, found.newest);
+  return code ? code : attach_tables(database, found.newest);
 }
 
 int pdti_open_folder(pdt_database *database, pdt_report *report) {

@@ -46,9 +46,8 @@ pdt_code pdt_table_name(pdt_database *database, size_t index, char *name, size_t
   return code == PDT_MISSING ? pdti_say(code, "there is no table %zu: the database has %zu", index, count) : code;
 }
 
-/* Changes the list of tables while nobody writes, commits or begins. */
+/* Changes the list of tables while no other thread commits or begins. */
 static void lock_tables(pdt_database *database) {
-  pdti_take_turn(database);
   pthread_mutex_lock(&database->locks.lock);
   pthread_mutex_lock(&database->locks.fresh_lock);
 }
@@ -56,7 +55,6 @@ static void lock_tables(pdt_database *database) {
 static void unlock_tables(pdt_database *database) {
   pthread_mutex_unlock(&database->locks.fresh_lock);
   pthread_mutex_unlock(&database->locks.lock);
-  pdti_end_turn(database);
 }
 
 /* The number of a commit that is durable once this returns, and that is the newest one as it begins. */
@@ -108,13 +106,6 @@ static int write_table(pdt_database *database, pdti_member *entry) {
   return code;
 }
 
-/* Puts an entry into the list by its number: tables that were begun earlier may be made later. */
-static void enter(pdt_database *database, pdti_member *entry) {
-  size_t at = database->count++;
-  for (; at && database->members[at - 1]->number > entry->number; at--) database->members[at] = database->members[at - 1];
-  database->members[at] = entry;
-}
-
 /* Has the manifest name a table whose files are written, and then it is there. With files_lock held. */
 static int add_table(pdt_database *database, pdti_member *entry) {
   uint64_t number = 0;
@@ -133,7 +124,7 @@ static int add_table(pdt_database *database, pdti_member *entry) {
   }
   lock_tables(database);
   pdti_attach(database, entry, number);
-  enter(database, entry);
+  pdti_place_entry(database, entry);
   unlock_tables(database);
   return PDT_OK;
 }

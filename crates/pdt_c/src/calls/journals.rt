@@ -1,5 +1,5 @@
 //! What C writes into a journal, and reads of one: its header, the heads of its frames, and the parts of their payloads.
-ghost use Rattle.std.specs.Prelude.{◌≡◌, ◌≢◌, ◌≤◌, ◌<◌, ◌^◌, ◌⊎◌, ◌↔◌, ◌++◌, Err, IfOk, IfSome, IsSome, IsTrue, IsFalse, MatchOption, None, Some, length, take};
+ghost use Rattle.std.specs.Prelude.{◌≡◌, ◌≤◌, ◌<◌, ◌^◌, ◌⊎◌, ◌↔◌, ◌++◌, IfErr, IfOk, IsTrue, IsFalse, MatchOption, None, Some, length, take};
 ghost use Rattle.codec.specs.Fit.{EntriesFit};
 ghost use Rattle.codec.specs.declared.fault.SpellFault.TheVariants as spell_fault;
 ghost use Rattle.journal.specs.Check.{crc};
@@ -7,24 +7,16 @@ ghost use Rattle.journal.specs.Frame.{frame_bytes};
 ghost use Rattle.journal.specs.Header.{header_bytes, header_in, header_with, seed_of};
 ghost use Rattle.manager.specs.Managed.{IsOwn};
 ghost use Rattle.manager.specs.Prepared.{IsPrepared, tree_in};
-ghost use Rattle.pdt_c.specs.Journals.{IsLong, IsPartOf, IsToldHeader};
-ghost use Rattle.pdt_c.specs.Stored.{bytes_at};
-ghost use Rattle.pdt_c.specs.declared.codes.TheConstants.{DONE, TOO_LONG};
+ghost use Rattle.pdt_c.specs.Journals.{IsAppended, IsLong, IsToldHeader};
 
-use crate::calls::image_bytes::one_column;
-use crate::codes::{DONE, NEWER_FORMAT, ROT, code_of_spelling};
-use crate::handles::decision::Decision;
-use crate::handles::image::{Columns, Image};
-use crate::handles::store::Store;
-use crate::handles::transaction::{OpenTxn, Transaction};
-use crate::handles::{decision, image, store, transaction};
+use crate::codes::{DONE, NEWER_FORMAT, ROT};
+use crate::handles::transaction::OpenTxn;
 use codec::{SpellFault, commit_entries_fit, write_part};
 use delta::DeltaTree;
 use journal::{Frame, Header, crc_from, frame_head, read_header, seed_of, spelt_header};
 use manager::{Manager, Prepared};
 use segments::is_later_header;
-use std::alloc::Global;
-use values::{NoMemory, Schema};
+use values::Schema;
 
 /// How many bytes a journal's header has.
 const HEADER_BYTES: usize = 36;
@@ -120,93 +112,41 @@ pub extern "C" fn pdtr_frame_head(
     true
 }
 
-/// Puts the part of a payload that says what was decided for this transaction, under the table's number, into a handle that
-/// holds nothing, as its column 0: no bytes where the table is left. Nothing else changes.
-#[unsafe(no_mangle)]
-pub extern "C" fn pdtr_part(
-    alloc: Global,
-    store: &mut Store,
-    txn: &mut Transaction,
-    decision: &mut Decision,
-    table: u32,
-    part: &mut Image,
-) -> u32
-    requires store { IsSome store.old.value }
-    requires txn { IsSome txn.old.value }
-    requires decision { IsSome decision.old.value }
-    requires own { IfSome store.old.value (λ m. IfSome txn.old.value (λ t. IsOwn m t.txn)) }
-    requires prepared { IfSome store.old.value (λ m. IfSome txn.old.value (λ t. IfSome decision.old.value (IsPrepared m t.txn))) }
-    ensures kept { (store.new.value ≡ store.old.value) × (txn.new.value ≡ txn.old.value) × (decision.new.value ≡ decision.old.value) }
-
-    // The part is that of the decided tree's entries, and is read as them again.
-    ensures done { result ≡ DONE → IfSome store.old.value (λ m. IfSome decision.old.value (λ d. IfSome part.new.value (λ p.
-        IsPartOf m.schema table (tree_in d) (bytes_at p 0)))) }
-    ensures held { result ≡ DONE → IsSome part.new.value }
-    ensures long { result ≡ TOO_LONG → IfSome decision.old.value (λ d. IsLong (tree_in d)) }
-    ensures refused { result ≢ DONE → part.new.value ≡ part.old.value }
-{
-    let manager = store::take(alloc, store);
-    let begun = transaction::take(alloc, txn);
-    let prepared = decision::take(alloc, decision);
-    let spelt = spell(alloc, &manager, &begun, &prepared, table);
-    decision::put(decision, prepared);
-    transaction::put(txn, begun);
-    store::put(store, manager);
-    match spelt {
-        Ok(columns) => {
-            image::put(part, columns);
-            DONE
-        }
-        Err(fault) => code_of_spelling(fault),
-    }
-}
-
-/// The part of what was decided.
-fn spell(
-    alloc: Global,
+/// Appends the part of what was decided: no bytes where the table is left. At a fault the bytes are as they were.
+pub(crate) fn write_decided(
     manager: &Manager,
     begun: &OpenTxn,
     prepared: &Prepared,
     table: u32,
-) -> Result<Box<Columns>, SpellFault>
+    out: &mut Vec<u8>,
+) -> Result<(), SpellFault>
     requires own { IsOwn manager.now begun.now.txn }
     requires prepared { IsPrepared manager.now begun.now.txn prepared.now }
-    ensures ok { IfOk result (λ p. IsPartOf manager.now.schema table (tree_in prepared.now) (bytes_at p.value 0)) }
-    ensures long { result ≡ Err spell_fault.TooLong → IsLong (tree_in prepared.now) }
+    ensures ok { IfOk result (λ _. IsAppended manager.now.schema table (tree_in prepared.now) out.old.items out.new.items) }
+    ensures long { IfErr result (λ fault. fault ≡ spell_fault.TooLong → IsLong (tree_in prepared.now)) }
+    ensures err { IfErr result (λ _. out.new.items ≡ out.old.items) }
 {
     // These are called for what their clauses tell.
     commit_entries_fit();
     let _history = manager.history();
     let _begin = begun.txn.begin();
     match prepared.tree() {
-        Some(tree) => part_of(alloc, manager.newest().schema(), table, tree),
-        None => spelt(alloc, Vec::new(alloc)),
+        Some(tree) => write_tree(manager.newest().schema(), table, tree, out),
+        None => Ok(()),
     }
 }
 
-/// The part of a commit's tree.
-fn part_of(
-    alloc: Global,
+/// Appends the part of a commit's tree.
+fn write_tree(
     schema: &Schema,
     table: u32,
     tree: &DeltaTree,
-) -> Result<Box<Columns>, SpellFault>
+    out: &mut Vec<u8>,
+) -> Result<(), SpellFault>
     requires fits { EntriesFit schema.now tree.now.entries }
-    ensures ok { IfOk result (λ p. IsPartOf schema.now table (Some tree.now) (bytes_at p.value 0)) }
-    ensures long { result ≡ Err spell_fault.TooLong → IsLong (Some tree.now) }
+    ensures ok { IfOk result (λ _. IsAppended schema.now table (Some tree.now) out.old.items out.new.items) }
+    ensures long { IfErr result (λ fault. fault ≡ spell_fault.TooLong → IsLong (Some tree.now)) }
+    ensures err { IfErr result (λ _. out.new.items ≡ out.old.items) }
 {
-    let mut bytes = Vec::new(alloc);
-    write_part(schema, table, tree, &mut bytes)?;
-    spelt(alloc, bytes)
-}
-
-/// The bytes of one column.
-fn spelt(alloc: Global, bytes: Vec<u8>) -> Result<Box<Columns>, SpellFault>
-    ensures ok { IfOk result (λ columns. bytes_at columns.value 0 ≡ bytes.items) }
-    ensures err { result ≢ Err spell_fault.TooLong }
-{
-    match one_column(alloc, bytes) {
-        Ok(columns) => Ok(columns),
-        Err(NoMemory) => Err(SpellFault::NoMemory),
-    }
+    write_part(schema, table, tree, out)
 }

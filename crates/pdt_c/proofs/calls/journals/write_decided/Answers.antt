@@ -8,11 +8,11 @@ use Rattle.txn.specs.Txn.{IsTransaction, effects_of}
 use Rattle.manager.specs.Managed.{newest_number, newest_table}
 use Rattle.pdt_c.specs.Marks.{Opened}
 use Rattle.manager.proofs.CallerLemmas.{grant_is, granted, granted_over, newest_few}
-use Rattle.pdt_c.proofs.calls.journals.spell.Goals as goal
+use Rattle.pdt_c.proofs.calls.journals.write_decided.Goals as goal
 
 -- the tree is that of the effects, which are over the newest table
-pub part_of-requires : goal.part_of-requires
-part_of-requires c =
+pub write_tree-requires : goal.write_tree-requires
+write_tree-requires c =
     let m = c.args.manager.now in
     let txn = c.args.begun.now.txn in
     let p = c.args.prepared.now in
