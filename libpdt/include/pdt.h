@@ -1631,7 +1631,7 @@ pdt_code pdt_database_close(pdt_database *database);
  * its handle is valid until the database is closed. Other threads commit while its files are
  * written.
  *
- * If the device fails twice, a later opening may find the table, as it was created.
+ * If the device fails twice, or memory is refused after it has failed, a later opening may find the table, as it was created.
  *
  * @param database    a database
  * @param name        1 to 64 bytes of UTF-8 and a zero byte; no byte below 32, and not 127

@@ -241,49 +241,23 @@ static void tables(void) {
   closed(database);
 }
 
-/* A thread that waits is kept where it is, whatever wakes it. */
-static atomic_int is_kept, goes_free;
-static void keep_here(int number) {
-  (void)number;
-  is_kept = 1;
-  while (!goes_free) pass(1);
-  is_kept = 0;
-}
-static void keep(task *one) {
-  goes_free = 0;
-  is("a handler", 0, sigaction(SIGUSR1, &(struct sigaction){.sa_handler = keep_here, .sa_flags = SA_RESTART}, NULL));
-  is("a signal", 0, pthread_kill(one->thread, SIGUSR1));
-  is("it is kept", 1, comes(&is_kept, 1));
-}
-static void free_kept(void) {
-  goes_free = 1;
-  UNTIL(!is_kept);
-}
-
-/* A drop waits for the turn, and a database transaction begins meanwhile: it is over the table, which stays. */
+/* A drop waits for the device, and a database transaction begins meanwhile: it is over the table, which stays. */
 static void dropped(void) {
   pdt_database_options options = {.size = sizeof options, .no_maintenance = true};
   pdt_database *database = opened("dropped", &options, NULL);
   pdt_table *a = created(database, "a"), *b = created(database, "b");
-  task one = {.table = a, .key = 0}, two = {.table = a, .key = 1}, dropper = {.database = database, .name = "b"};
+  task one = {.table = a, .key = 0}, dropper = {.database = database, .name = "b"};
   hold(&syncs);
   start(&one, commits);
   is("a sync", 1, comes(&syncs.begun, 1));
   start(&dropper, drops);
-  comes_to_wait("a drop waits for the first commit", &dropper);
-  keep(&dropper);
-  syncs.let = 1;
-  is("the first", PDT_OK, joined(&one));
-  start(&two, commits);
-  is("the second has the turn", 1, comes(&syncs.begun, 2));
-  free_kept();
-  comes_to_wait("the drop waits for the turn", &dropper);
+  comes_to_wait("a drop waits for the commit", &dropper);
   pdt_dbtxn *dbtxn = NULL;
   pdt_txn *txn = NULL;
   is("work", PDT_OK, pdt_dbtxn_begin(database, &dbtxn));
   is("over the table", PDT_OK, pdt_dbtxn_on(dbtxn, b, &txn));
   let(&syncs);
-  is("the second", PDT_OK, joined(&two));
+  is("the commit", PDT_OK, joined(&one));
   int code = joined(&dropper);
   is("a drop under a database transaction", PDT_MISUSE, code);
   if (!code) return; /* what the database transaction has is gone */
@@ -450,10 +424,10 @@ static void late(int sync, const char *name) {
   closed(database);
 }
 
-/* While who has the turn goes on in the next file of the journal, maintenance wants another one: it waits for that one's frames. The
-   database transaction has it fold the first table, which is counted, and want an image of the second one then. */
+/* The commit whose sync ends goes on in the next file of the journal, which maintenance has made for an image of the second table, and
+   closes the one before: nobody waits for that. The fold of the first table is counted. */
 static void *ends_dbtxn_held(task *one) {
-  holds_close = true;
+  holds_close = 1;
   return ends_dbtxn(one);
 }
 static void sets_rows(pdt_txn *txn, int64_t count) {
@@ -474,11 +448,17 @@ static void next_file(void) {
   is("on a", PDT_OK, pdt_dbtxn_on(two.dbtxn, a, &txn));
   is("on b", PDT_OK, pdt_dbtxn_on(two.dbtxn, b, &other));
   sets_rows(txn, 1), sets_rows(other, 2);
-  hold(&closes);
+  hold(&syncs), hold(&closes);
   start(&two, ends_dbtxn_held);
-  is("a close", 1, comes(&closes.begun, 1));
+  is("a sync", 1, comes(&syncs.begun, 1));
   UNTIL(counted(database).folds > folds);
-  UNTIL(is_asleep(maintenance)); /* until the turn ends */
+  char path[600];
+  snprintf(path, sizeof path, "%s/next/journal-3", room);
+  UNTIL(!access(path, F_OK));
+  UNTIL(is_asleep(maintenance)); /* until the commit is durable */
+  let(&syncs);
+  is("a close", 1, comes(&closes.begun, 1));
+  is("what goes on meanwhile", 2, (long long)counted(database).durable);
   let(&closes);
   is("commit", PDT_OK, joined(&two));
   UNTIL(counted(database).checkpoints >= 2); /* its manifest names the files that are wanted */

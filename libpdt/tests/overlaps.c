@@ -75,7 +75,7 @@ static void after_failure(void) {
 /* ---- tables that are made and dropped while an image is written */
 
 static void *keeps_up_slowly(task *one) {
-  holds_close = true; /* the first file of the image */
+  holds_close = 2; /* the first file of the image, after that of the journal */
   return keeps_up(one);
 }
 static void *drops(task *one) {

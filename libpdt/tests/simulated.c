@@ -1,9 +1,10 @@
 /* A database over a disk in memory, on threads that one plays, beside a model of its commits. Clients are drawn that make and drop tables,
    commit over one or several of them, also in two parts, read, and call for maintenance; calls that fail are drawn, allocations that are
-   refused, and crashes before or amid any call, in an opening too; and it is opened again, and goes on. After each crash all tables are at one
-   commit, as the model has them there, and that is none before one that was acknowledged. Each call on a file of the journal is the step that
-   a second value of the journal says is due. Wrong shells and devices are planted: each has to be found, by the crashes and by the steps.
-   Linked with the objects of the library, and --wrap of what it calls.
+   refused, and crashes before or amid any call, in an opening too; and it is opened again, and goes on. After each crash all tables are at
+   one commit, as the model has them there, and none is before a commit that was acknowledged. Each call on a file of the journal is the
+   step that a second value of the journal says is due, and no lock is held over it. Wrong shells and devices are planted: each has to be
+   found, by the crashes and by the steps. TRACE in the environment has a run told. Linked with the objects of the library, and --wrap of
+   what it calls.
 
      simulated RUNS SEED [PLANT]: of the controls this one alone, or none where it is 0 */
 #include "simulated_steps.h"
@@ -439,7 +440,7 @@ static void create_table(int at) {
                 .first = rows,
                 .now = rows};
   pdt_table *table = NULL;
-  long before = failures;
+  long before = failures + refused;
   int code = is_empty ? pdt_table_create_csv(database, called[at], csv, sizeof csv - 1, &options, NULL, &table)
                       : pdt_table_create(database, called[at], columns, 3, 1, &options, NULL, &table);
   one->is_busy = false;
@@ -447,8 +448,8 @@ static void create_table(int at) {
     one->table = table;
     one->state = THERE;
   } else {
-    one->state = failures - before > 1 ? IN_DOUBT : ABSENT;
-    one->is_busy = one->state == IN_DOUBT; /* until the next opening */
+    one->state = failures + refused - before > 1 ? IN_DOUBT : ABSENT; /* it couldn't be taken out of the manifest again */
+    one->is_busy = one->state == IN_DOUBT;                            /* until the next opening */
   }
 }
 static void drop_table(int at) {
@@ -795,7 +796,7 @@ int main(int argc, char **argv) {
   for (int i = 0; i < runs; i++) run(from + (uint64_t)i);
   printf("%ld calls, %ld commits, %ld events, %d runs\n", calls, counts[COMMIT], events, runs);
   for (int kind = 0; kind < ALL_KINDS; kind++) {
-    printf("  %ld %s\n", counts[kind], kinds[kind]);
+    printf("  %s: %ld\n", kinds[kind], counts[kind]);
     if (is_whole && runs >= ENOUGH && !counts[kind]) fprintf(stderr, "none: %s\n", kinds[kind]), exit(1);
   }
   if (is_whole) try_controls(from);

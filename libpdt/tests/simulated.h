@@ -1,6 +1,6 @@
 /* What a simulation is made of beside its disk: what is drawn, what was met, memory, the clock, and threads that are all played by one. A
-   thread gives its turn to a drawn one where it takes a lock, waits, or calls the system; no thread of the system's is made. Nothing depends
-   on anything but the seed. Linked with --wrap of the calls of memory, of clocks and of pthread. */
+   thread gives its turn to a drawn one where it takes a lock, waits, or calls the system; none of them is a thread of the system's. Nothing
+   depends on anything but the seed. Linked with --wrap of the calls of memory, of clocks and of pthread. */
 #ifndef SIMULATED_H
 #define SIMULATED_H
 

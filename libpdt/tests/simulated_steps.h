@@ -1,6 +1,6 @@
-/* A second journal value, beside the library's: it is told the same commits and the same ends of steps, and each call of the system on a file
-   of the journal has to be the step that it says is due, of the thread that has begun it, on the file of its number, and with the bytes of
-   its batch. Linked with --wrap of the exports. */
+/* A second journal value, beside the library's: it is told the same commits and the same ends of steps, and each call of the system on a
+   file of the journal has to be the step that it says is due, of the thread that has begun it, on the file of its number, and with the bytes
+   of its batch. Linked with --wrap of the exports. */
 #ifndef SIMULATED_STEPS_H
 #define SIMULATED_STEPS_H
 
@@ -79,7 +79,7 @@ static void step_synced_names(bool is_bad) {
   mine()->is_done = !is_bad;
   mine()->is_bad = is_bad;
 }
-/* One of the journal that no opening wants any more, one that is in the way of the next one, or that of a new database that isn't opened. */
+/* One of the journal that no opening wants any more, one in the way of the next one, or that of a new database that isn't opened. */
 static void step_removes(uint64_t journal) {
   if (!is_told || !journal) return;
   bool is_next = is_opening || (mine()->step == CREATE && mine()->file == journal);

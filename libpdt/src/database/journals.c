@@ -1,5 +1,5 @@
-/* The journal of a database. Its steps are a value of the exports: it is told which commits are added and how each step went, and says which
-   step is due. Here they are performed, by the threads that wait for them, and without a lock. */
+/* The journal of a database. Its steps are a value of the exports: it is told which commits are added and how each step went, and says
+   which step is due. Here they are performed, by the threads that wait for them, and without a lock. */
 #include "database.h"
 
 #include <fcntl.h>
@@ -190,7 +190,7 @@ static int without_next(pdt_database *database) {
   return file;
 }
 
-/* Reports how a step went, and takes up what the journal says then. *ended is a file that is to be closed, or -1. With journal_lock held. */
+/* Reports how a step went, and takes up what the journal says then. *ended is a file to be closed, or -1. With journal_lock held. */
 static void report(pdt_database *database, uint32_t step, int code, uint64_t written, int *ended) {
   pdti_journal_numbers before = database->at;
   pdti_journal_file *last = last_file(database);
