@@ -113,8 +113,8 @@ struct pdt_database {
 
 /* ---- journals.c */
 
-/* Adds one commit of prepared ones to the journal, and gives its number: no batch takes it while the lock is held. The transactions are in the
-   order of their tables' numbers. Under the lock. */
+/* Adds one commit of prepared ones to the journal, and gives its number: no batch takes it while the lock is held. The transactions are
+   in the order of their tables' numbers. Under the lock. */
 int pdti_stage(pdt_database *database, pdt_txn *const *txns, size_t count, uint64_t *number);
 /* Whether begins see a commit only once it is durable. */
 bool pdti_hides(const pdt_database *database);
@@ -130,8 +130,8 @@ int pdti_flush(pdt_database *database, bool syncs);
 /* The newest commit that is durable. */
 uint64_t pdti_durable(pdt_database *database);
 
-/* Opens the steps of a journal whose files are known and whose commits up to a number are durable. What it has made stays for the other call,
-   also where it fails. PDT_NOMEM. */
+/* Opens the steps of a journal whose files are known and whose commits up to a number are durable. What it has made stays for the other
+   call, also where it fails. PDT_NOMEM. */
 int pdti_open_journal(pdt_database *database, uint64_t newest);
 void pdti_close_journal(pdt_database *database);
 

@@ -204,7 +204,7 @@ extern uint32_t pdtr_journal_end(const pdti_segment *, size_t, uint64_t, uint64_
 extern bool pdtr_has_frames(uint64_t, uint64_t, const uint8_t *, size_t);
 extern bool pdtr_frame_head(uint64_t, uint64_t, uint64_t, const uint8_t *, size_t, uint8_t *, size_t);
 
-/* its steps: the exports tell which is due, and are told how it went. A goal is 1 for a commit that is to be written, 2 for a durable one */
+/* its steps: the exports return the one that is due, and C reports how it went. A goal is 1 for a written commit, 2 for a durable one */
 typedef struct {
   uint64_t newest, written, durable, file, first_file;
   bool has_failed;
